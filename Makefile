@@ -64,7 +64,7 @@ edits:
 # [CRATES=goblin_base]
 margin:
 	$(has_rt)
-	@python3 bench/margin.py $(CRATES)
+	@python3 checks/margin.py $(CRATES)
 
 # Times the program, once it is built, beside readelf: over files that ask for much work, over a FILE, and over files of this machine. Then
 # times calls of the library: make bench [FILE=/bin/true]

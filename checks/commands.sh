@@ -22,7 +22,7 @@ shows() {
     [ "$(cat "$folder/said")" = "$reported" ] || fail "make try should report '$reported', and reports $(cat "$folder/said")"
 }
 
-refuses 'margin: crates.txt has no crate nope' python3 bench/margin.py goblin nope
+refuses 'margin: crates.txt has no crate nope' python3 checks/margin.py goblin nope
 refuses 'gate: no edit was found' python3 checks/gate.py edits --anew goblin_base --edit nope
 refuses "fatal: *
 gate: git doesn't list the files of this folder, for the reason above" \

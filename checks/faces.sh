@@ -12,6 +12,8 @@ mkdir "$folder/library"
 sh checks/faces/library.sh "$folder/library"
 has cc 'the calls from C, Rust, JavaScript and Python are not tested: install a C compiler' || exit 0
 try library/c library/python
+python3 checks/surface.py "$folder/python/python"
+python3 checks/surface.py --self-test "$folder/python/python"
 try c/rust c/webassembly
 # (the toolchain makes one library at a time)
 try c/aarch64 c/archive webassembly/page

@@ -87,7 +87,7 @@ def prove(crate, anew):
 
 
 # What `make gate` leaves to `rt ci`, which proves and runs it too. (Long tests take minutes without a proof, with checks of each access.)
-LEFT = ('goblin_long_tests', 'goblin_names', 'goblin_refused', 'goblin_show')
+LEFT = ('goblin_allocation_tests', 'goblin_long_tests', 'goblin_names', 'goblin_show')
 
 # What takes seconds. All else waits for it.
 QUICK = {'lint': f'{PYTHON} checks/lint', 'whether edits fit': f'{PYTHON} checks/edits --fits', 'views': 'sh checks/views.sh'}
@@ -138,9 +138,9 @@ def test(room, whole, over, anew):
     # (all kinds together take fewer checks, and each by itself ends sooner)
     for some in [','.join(kinds)] if whole else kinds:
         parts += edits(crates_with(some.split(',')), copy, *anew, '--kinds', some, what='edits' if whole else some)
-    parts += [here('refused allocations', 'sh checks/refused.sh'),
+    parts += [here('refused allocations', 'sh checks/allocations.sh'),
               ran('the program', f'{PYTHON} checks/program.py', 'proof of goblin_show', 'proof of goblin_uses'),
-              ran('hostile files', f'{PYTHON} checks/limits.py', 'proof of goblin_show', 'proof of goblin_refused'),
+              ran('hostile files', f'{PYTHON} checks/limits.py', 'proof of goblin_show', 'proof of goblin_allocation_tests'),
               # (it builds the program here, which these run too unless `rt ci` built theirs)
               here("README's commands", f'{PYTHON} checks/readme.py', *(['proof of goblin_text'] if whole else ['the program', 'hostile files']))]
     # (in this folder, which git knows)

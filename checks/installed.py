@@ -19,6 +19,11 @@ from crates import text_of
 
 # The warnings of groff 1.22. What other versions find is not asked for.
 WARNINGS = 'break char delim di el escape file font ig input mac missing number range reg right-brace scale space syntax tab'
+# What a project asks for that version 1.2.3 meets, and what it doesn't: CMake says the same of a package whose versions are compatible if they
+# have the same first number.
+MET = '1, 1.1, 1.1.9, 1.2, 1.2.3, 1.2.3 EXACT, 1.0...1.2.3, 1.1...<1.3, 1...<2, 1.2.3...1.9'
+UNMET = ('0, 0.9, 1.2.4, 1.3, 2, 2.0, 99, 1.2 EXACT, 1.1 EXACT, 1.2.3.0 EXACT, 2.2.3 EXACT, 1.0...<1.2.3, 1.0...1.2, 1.3...1.4, 0.9...1.9, '
+         '1.0...2.0, 1...<2.1, 1.2.3...2, 1.0...<99, 0...0.9')
 # What nm.c and symbols.rs print of themselves.
 OF_C, OF_RUST = r'(?m) T [0-9]* main$', '(?m) main$'
 
@@ -125,8 +130,7 @@ class Unpacked:
                 'if(goblin_c_FOUND)\nmessage(FATAL_ERROR "${wrong} is found")\nendif()\nendforeach()\n'
                 'find_package(goblin_c REQUIRED COMPONENTS goblin_c OPTIONAL_COMPONENTS nothing)\n'
                 'if(goblin_c_nothing_FOUND OR NOT goblin_c_goblin_c_FOUND)\nmessage(FATAL_ERROR "other components are found")\nendif()\n'
-                'if(NOT CMAKE_VERSION VERSION_LESS 3.19)\nfind_package(goblin_c 0.1...<99 REQUIRED)\n'
-                f'set(INCLUDE include)\nfind_package(goblin_c 0.1...{self.version} REQUIRED)\nendif()\n')
+                f'find_package(goblin_c {self.version.partition(".")[0]}.0 REQUIRED)\n')
         ways = {'package': f'{none}{package}\ntarget_link_libraries(listing goblin_c::goblin_c)'}
         if shutil.which('pkg-config'):
             ways['module'] = (f'{module}\npkg_check_modules(GOBLIN REQUIRED IMPORTED_TARGET goblin_c={self.version})\n'
@@ -148,6 +152,19 @@ class Unpacked:
         # (the folder of the libraries may be a link)
         self.run('mv "$LIBDIR" linked', 'ln -s "$PWD/linked" "$LIBDIR"', 'cmake -S package -B package/linked', 'rm "$LIBDIR"',
                  'mv linked "$LIBDIR"')
+
+    def versions_for_cmake(self):
+        """What requests the version file meets, as of version 1.2.3. (A project's variables may have the names of words in it.)"""
+        checked = [f'check({int(requests is MET)} {request})' for requests in (MET, UNMET) for request in requests.split(', ')]
+        self.run('sed "s/(PACKAGE_VERSION .*)/(PACKAGE_VERSION 1.2.3)/" "$LIBDIR/cmake/goblin_c/goblin_c-config-version.cmake" '
+                 '> goblin_c-config-version.cmake', 'touch goblin_c-config.cmake reference-config.cmake', 'echo "$LINES" > versions.cmake',
+                 'cmake -P versions.cmake', wanted='all are as expected', LINES='\n'.join([
+                     'cmake_minimum_required(VERSION 3.10)', 'include(CMakePackageConfigHelpers)', 'set(INCLUDE include)', 'set(EXCLUDE exclude)',
+                     'write_basic_package_version_file(reference-config-version.cmake VERSION 1.2.3 COMPATIBILITY SameMajorVersion)',
+                     'function(check is_met)', 'if("${ARGN}" MATCHES "[.][.][.]" AND CMAKE_VERSION VERSION_LESS 3.19)', 'return()', 'endif()',
+                     'foreach(package goblin_c reference)', 'find_package(${package} ${ARGN} QUIET CONFIG PATHS . NO_DEFAULT_PATH)',
+                     'if(NOT ${package}_FOUND EQUAL is_met)', 'message(FATAL_ERROR "version 1.2.3 of ${package} for ${ARGN}: ${${package}_FOUND}")',
+                     'endif()', 'endforeach()', 'endfunction()', *checked, 'message(STATUS "all are as expected")']))
 
     def cargo(self, command, wanted='', **variables):
         linker = {f'CARGO_TARGET_{self.target.upper().replace("-", "_")}_LINKER': self.linker}
@@ -193,7 +210,8 @@ def main(archive, *compiler):
                   'two interfaces in one process': (it.versions, compiles and not it.runner),
                   'hidden in a shared library': (it.hidden, compiles and not it.runner and has('readelf')), 'goblin_show': (it.program, has_program),
                   'its manual page': (it.manual, has_program and has('groff')), 'C by pkg-config': (it.by_pkg_config, compiles and has('pkg-config')),
-                  'CMake': (it.by_cmake, compiles and has('cmake')), 'Rust by its path': (it.by_rust, compiles and has_rust)}
+                  'versions for CMake': (it.versions_for_cmake, has('cmake')), 'CMake': (it.by_cmake, compiles and has('cmake')),
+                  'Rust by its path': (it.by_rust, compiles and has_rust)}
         tried = {name: check for name, (check, can_be) in checks.items() if can_be}
         for program in [program for program in ('cmake', 'groff', 'pkg-config', 'readelf') if not has(program)]:
             print(f'left out: {program} is not installed, so the archive is not tried by it')

@@ -9,8 +9,8 @@ text reads all of it there, and in the others stops early.
 A run over a file has a limit on its processor seconds, which stands in MAKERS, and on its address space and its main stack. So memory that is
 asked for and never touched counts too, and no run may end because there is no more. Of a text without end the first 100 MB are read, and then
 no more. What is there for speed alone, and no contract says, is noticed here when it is undone. And each call of the library that allocates,
-as goblin_refused makes it, has a limit on its address space: for a list of the records or strings in 4 MB of bytes and 500 lists of one item,
-held at once.
+as goblin_allocation_tests makes it, has a limit on its address space: for a list of the records or strings in 4 MB of bytes and 500 lists of
+one item, held at once.
 """
 import itertools
 import os
@@ -21,7 +21,7 @@ import sys
 import tempfile
 
 PROGRAM = 'crates/goblin_show/out/goblin_show'
-CALLS = 'crates/goblin_refused/out/goblin_refused'
+CALLS = 'crates/goblin_allocation_tests/out/goblin_allocation_tests'
 # The most MiB of address space, of the file that needs most memory and of the others. When this was set they took 93.5 and 28: the file of
 # 16 MiB, 72 bytes for each of 419,429 section headers, the lists of 72 bytes for each symbol section and 40 for each relocation section,
 # which double, so that 46 MiB are the most, and the program.
@@ -29,7 +29,7 @@ MOST, USUAL = 96, 40
 STACK = 256 * 1024
 READ = 100_000_000
 OUT_OF_MEMORY = b'refused: Out of memory'
-# What goblin_refused holds: the most MB of address space, which are 2 to 3 MB more than its 4 MB of bytes, its lists and the program
+# What goblin_allocation_tests holds: the most MB of address space, which are 2 to 3 MB more than its 4 MB of bytes, its lists and the program
 # itself took when this was set.
 HELD = {
     'entries': 9, 'lines': 9, 'parsed': 9, 'permissive': 9, 'relocs': 12, 'sections': 14, 'sections_bytes32': 12, 'sections_bytes64': 13,
@@ -217,7 +217,7 @@ def took(path, arguments, limit):
 
 
 def holds(form, limit):
-    """Whether goblin_refused can hold the lists of a form in so many MB of address space."""
+    """Whether goblin_allocation_tests can hold the lists of a form in so many MB of address space."""
     ended = subprocess.run([CALLS], input=f'held-{form}\n', text=True, stdout=subprocess.PIPE, preexec_fn=limited(limit))
     return ended.returncode == 0 and ended.stdout == f'held-{form}: `held`\n'
 

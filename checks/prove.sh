@@ -1,7 +1,7 @@
 #!/bin/sh
 # Proves a crate over those below it, and builds it: sh checks/prove.sh CRATE. A program is built by both compilers of the toolchain, and each
-# build must write for the crate's file stdin what its file stdout has; with UNBUILT set this is left to `rt ci`, which does the same. A crate
-# whose name ends with _tests holds tests, which all run.
+# build must write for the crate's file stdin what its file stdout has; with UNBUILT set this is left to `rt ci`, which does the same. Another
+# crate whose name ends with _tests holds tests, which all run.
 # (Other crates wait for a library, so its proof uses half of the processors, or JOBS: with more, the work grows faster than the time falls.)
 # What the toolchain reports is left in the crate's out/said, and the program of the second compiler beside the first, as CRATE.by-rattle.
 # Run from the root of the repository, or of a copy.

@@ -27,7 +27,7 @@ HERE = shlex.quote(os.getcwd())
 SYMBOL, KEPT = r'[0-9a-fx]+ (.* )?goblin_symbol\n', 'a string of a section of its own'
 # Of each language how its line begins, the commands that it needs, the shell commands before and after it, and what all of them print.
 LANGUAGES = {
-    'C': ('cc app.c ', ('cc', 'pkg-config'), f"""cp {HERE}/faces/c/values.c app.c
+    'C': ('cc app.c ', ('cc', 'pkg-config'), f"""cp {HERE}/faces/c/examples/values.c app.c
         echo '__attribute__((used, section(".own"))) static const char kept[] = "{KEPT}";' >> app.c""",
           f"""./a.out "$FILE"; grep -ao -e '{KEPT}' -e 'libgoblin_c[.]so[.0-9]*' a.out""", f'{SYMBOL}([0-9a-f]+ .*\n)*{KEPT}\n$'),
     'Rust': ('cargo add ', ('cargo', 'cc'), f'cargo init -q --vcs none --name app .; cp {HERE}/faces/rust/examples/symbols.rs src/main.rs',

@@ -1,13 +1,13 @@
 #!/usr/bin/env python3
 """Writes the constants of the library's records for C, Rust, JavaScript and Python.
 
-    python3 faces/constants.py            writes the end of faces/c/goblin.h, faces/web/constants.js, constants.py, interface.py and names.py of
-                                          faces/python/goblin_elf, and by faces/rust/generated.py the file for Rust
+    python3 faces/constants.py            writes the end of faces/c/goblin.h, constants.js and interface.js of faces/web, constants.py, interface.py
+                                          and names.py of faces/python/goblin_elf, and by faces/rust/generated.py the file for Rust
     python3 faces/constants.py --made     writes only the files for JavaScript, Python and Rust
     python3 faces/constants.py --check    writes nothing, and fails if goblin.h is not what it would write, or if a constant is not in the table
                                           that the library's are compared with, crates/goblin_names/stdout
     python3 faces/constants.py --fields   prints STRUCT(name) for each struct of goblin.h, and FIELD(name, field, number) for each of its fields
-                                          in order, for the tests in faces/c
+                                          in order, for faces/c/tests
     python3 faces/constants.py --nulls    prints a program whose lines pass a null pointer for each argument that may not be null, and read no
                                           status, for a test of what compilers warn of
 
@@ -16,7 +16,7 @@ the library doesn't have. So a constant is written by hand only there. Git has g
 others, which faces/install.sh makes, and the one for Rust also cargo; by hand they must be made before node or Python reads them.
 
 Flags of sections and indices of sections get the type of the field that holds them: `sh_flags` and `st_shndx`. What the dynamic section holds
-has 64 bits. Each language also gets the number of the interface, from goblin.h, and Python and Rust what it declares.
+has 64 bits. Each language also gets what goblin.h declares, and the number of the interface.
 """
 import os
 import re
@@ -178,6 +178,73 @@ export const VERSION = {interface()};
     return text
 
 
+# The structs that are items, with their names in JavaScript; the fields that are BigInts though C has them in fewer than 64 bits; the bytes of each
+# type of a field; and the kinds of refusals that no call for C returns.
+JS_ITEMS = {'range': 'Range', 'header': 'Header', 'section': 'SectionHeader', 'segment': 'ProgramHeader', 'symbol': 'Sym', 'reloc': 'Reloc',
+            'dyn': 'Dyn'}
+JS_WIDE = ('sh_name', 'st_name', 'st_shndx', 'r_sym')
+JS_WIDTHS = {'B': 1, 'H': 2, 'I': 4, 'Q': 8, 'q': 8}
+JS_OWN = 'This kind is of goblin.js.'
+JS_KINDS = [(f'No section has the number of the symbols that the dynamic section has: their address. {JS_OWN}', 'NOT_COUNTED', '0xfffffff9'),
+            (f'A number is to be written in bytes that are not 1, 2, 4 or 8: how many. {JS_OWN}', 'NUMBER_WIDTH', '0xfffffffa'),
+            (f'An item is to be written past the end of its list: its index. {JS_OWN}', 'NO_ITEM', '0xfffffffb'),
+            (f'Of strings that are read at once no zero byte closes one: its offset in the table. {JS_OWN}', 'OPEN_STRING', '0xfffffffd'),
+            (f'The value of an entry of the dynamic section is the offset of no string: its tag; its value. {JS_OWN}', 'NO_STRING', '0xfffffffe'),
+            (f'A section was read as symbols or relocations, and has another type: its type. {JS_OWN}', 'SECTION_TYPE', '0xffffffff')]
+
+
+def js_lines(text, indent):
+    return textwrap.fill(text, WIDTH, initial_indent=' * ', subsequent_indent=f' * {indent}', break_on_hyphens=False) + '\n'
+
+
+def js_item(name, comment, fields):
+    text = f'\n/**\n{js_lines(comment.split(". ")[0].rstrip(".") + ".", "")} * @typedef {{object}} {JS_ITEMS[name]}\n'
+    for field, code, words in fields:
+        kind = 'bigint' if code in 'Qq' or field in JS_WIDE else 'number'
+        if field == 'r_addend':
+            kind, words = 'bigint | undefined', 'the addend, or `undefined` if the relocation has none of its own'
+        text += js_lines(f'@property {{{kind}}} {field} {words}'.rstrip(), '  ')
+    return text + ' */\n'
+
+
+def js_struct(name, fields):
+    """A struct with its size, and its fields, each with its offset in C, its number of bytes, or `s` if it is signed, and its type."""
+    text, end, widest = '', 0, 1
+    for field, code, _ in fields:
+        width = JS_WIDTHS[code]
+        offset, widest = -(-end // width) * width, max(widest, width)
+        end = offset + width
+        kind = 'bigint' if width == 8 or field in JS_WIDE else 'number'
+        text += f"        ['{field}', {offset}, {repr('s') if code == 'q' else width}, '{kind}'],\n"
+    return f'    {name}: {{ size: {-(-end // widest) * widest}, fields: [\n{text}    ] }},\n'
+
+
+def js_interface():
+    kinds, parts, calls = declared()
+    kinds, all_structs = kinds + JS_KINDS, list(structs())
+    numbers = [f'{{\n{"".join(f"    {name}: {value},{chr(10)}" for name, value in pairs)}}}' for pairs in ([kind[1:] for kind in kinds], parts)]
+    return f"""// What goblin.h declares: its refusals, its structs and its calls.
+// {MADE.replace("the library's constants", HEADER)}
+
+/**
+ * The kinds of refusals. After the colon are the `numbers` that belong to a kind, in order.
+{''.join(js_lines(f'- `{name}`. {words}', '  ') for words, name, _ in kinds)} */
+export const Kind = Object.freeze({numbers[0]});
+
+/** What a refusal is about, if its kind alone does not say it: the numbers of `item`. */
+export const Item = Object.freeze({numbers[1]});
+{''.join(js_item(name, comment, fields) for name, comment, fields in all_structs if name in JS_ITEMS)}
+// The structs, as goblin_layout marks them.
+export const STRUCTS = {{
+{''.join(js_struct(name, fields) for name, _, fields in all_structs)}}};
+
+// The calls.
+export const CALLS = [
+{textwrap.fill(', '.join(f"'goblin_{name}'" for name, _ in calls), WIDTH, initial_indent='    ', subsequent_indent='    ')},
+];
+"""
+
+
 # ---- Python ----
 
 # The constants that make an enumeration, by the start of their names, and those whose values are flags.
@@ -296,6 +363,18 @@ def numbers_in(comment):
     return len(comment.split(': ')[1].split('. ')[0].split(';')) if ': ' in comment else 0
 
 
+def declared():
+    """Returns what goblin.h declares: the kinds of refusals with their comments, the items, and the calls with their types."""
+    header = read(HEADER)
+    refusals, items = re.findall(r'^enum \w+ \{\n(.*?)^\};', header, re.M | re.S)[:2]
+    pattern = r'/\* ((?:(?!\*/).)*) \*/\n +GOBLIN_REFUSED_(\w+) = (\d+)'
+    kinds = [(words_of(comment.split('*/')[-1]), name, value) for comment, name, value in re.findall(pattern, refusals, re.S)]
+    calls = [(name, CODES[result] + ''.join('p' if '*' in argument else CODES[argument.split()[0]] for argument in arguments.split(',')))
+             for result, name, arguments in re.findall(r'^(\w+) goblin_(\w+)\(([^)]*)\)[^;)]*(?:\(\(.*\)\))?;', header, re.M)]
+    # (not each item has a comment)
+    return kinds, re.findall(r'GOBLIN_ITEM_(\w+) = (\d+)', items), calls
+
+
 def py_members(name, comment, members):
     text = f'\n\nclass {name}(Named):\n    """{comment}"""\n\n'
     return text + ''.join(textwrap.indent(textwrap.fill(words, WIDTH, initial_indent='# ', subsequent_indent='# '), '    ') + '\n'
@@ -317,14 +396,7 @@ def py_item(name, comment, fields):
 
 
 def py_interface():
-    header = read(HEADER)
-    refusals, items = re.findall(r'^enum \w+ \{\n(.*?)^\};', header, re.M | re.S)[:2]
-    pattern = r'/\* ((?:(?!\*/).)*) \*/\n +GOBLIN_REFUSED_(\w+) = (\d+)'
-    kinds = [(words_of(comment.split('*/')[-1]), name, value) for comment, name, value in re.findall(pattern, refusals, re.S)]
-    # (not each item has a comment)
-    parts = re.findall(r'GOBLIN_ITEM_(\w+) = (\d+)', items)
-    calls = [(name, CODES[result] + ''.join('p' if '*' in argument else CODES[argument.split()[0]] for argument in arguments.split(',')))
-             for result, name, arguments in re.findall(r'^(\w+) goblin_(\w+)\(([^)]*)\)[^;)]*(?:\(\(.*\)\))?;', header, re.M)]
+    kinds, parts, calls = declared()
     all_structs = list(structs())
     text = f"""\"\"\"What goblin.h declares: its refusals, its structs and its calls.
 
@@ -517,6 +589,7 @@ def main(arguments):
             print(f'crates/goblin_names/stdout does not have {path}')
         return 1 if is_stale or missing() else 0
     write('faces/web/constants.js', js_file())
+    write('faces/web/interface.js', js_interface())
     for name, text in [('constants', py_file()), ('interface', py_interface()), ('names', py_names())]:
         write(f'faces/python/goblin_elf/{name}.py', text)
     if is_stale and not arguments:

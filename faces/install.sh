@@ -199,10 +199,7 @@ stage_library() {
     done
     put LICENSE share/goblin_c/LICENSE
     put CHANGELOG.md share/goblin_c/CHANGELOG.md
-    for example in execstack flag needed nm pread size strings symbolize truncated values; do
-        put "faces/c/$example.c" "share/goblin_c/examples/$example.c"
-    done
-    put faces/c/example.h share/goblin_c/examples/example.h
+    put_all faces/c/examples share/goblin_c/examples -name '*.[ch]'
     put LICENSE share/goblin_c/rust/LICENSE
     put_edited "s|join(\"lib\")|join(\"$libdir\")|" faces/rust/build.rs share/goblin_c/rust/build.rs
     put_all faces/rust/src share/goblin_c/rust/src -name '*.rs'
@@ -301,12 +298,12 @@ stage_web() {
     put LICENSE share/goblin_c/web/LICENSE
     put CHANGELOG.md share/goblin_c/web/CHANGELOG.md
     put faces/web/goblin.js share/goblin_c/web/goblin.js
-    put faces/web/constants.js share/goblin_c/web/constants.js
+    for made in constants interface; do put "faces/web/$made.js" "share/goblin_c/web/$made.js"; done
     python3 faces/web/declarations.py > "$folder/types"
     put "$folder/types" share/goblin_c/web/goblin.d.ts
     put_all faces/web/examples share/goblin_c/web/examples -name '*.mjs'
     put_edited '' faces/web/package.json.in share/goblin_c/web/package.json
-    python3 faces/web/pack.py "$library" > "$folder/page"
+    python3 faces/page/pack.py "$library" > "$folder/page"
     put "$folder/page" share/goblin_c/web/index.html
 }
 
@@ -434,12 +431,15 @@ if [ "$option" != --archive ]; then
     fi
     exit 0
 fi
-# Puts a file into a place. An earlier one stays there until this one is whole: place FILE PLACE
+# Puts a file into a place, and beside it the sum that `sha256sum -c` compares. An earlier one stays until this one is whole: place FILE PLACE
 place() {
     mkdir -p "$(dirname "$2")"
     part=$2.part
     cp "$1" "$part"
     mv -fT "$part" "$2"
+    (cd "$(dirname "$2")" && sha256sum "${2##*/}") > "$folder/sum"
+    cp "$folder/sum" "$part"
+    mv -fT "$part" "$2.sha256"
 }
 name=goblin_c-$version-$made_for
 archive=${1:-out/$name.tar.gz}

@@ -12,7 +12,7 @@ mkdir "$other"
 quietly make_library $target "$other"
 check_axioms
 for program in layout damaged $c_examples; do
-    strictly aarch64-linux-gnu-gcc -static -std=c99 -I"$folder" -o "$other/$program" "faces/c/$program.c" -L"$other" -lgoblin_c
+    strictly aarch64-linux-gnu-gcc -static -std=c99 -Ifaces/c -I"$folder" -o "$other/$program" faces/c/*/"$program.c" -L"$other" -lgoblin_c
 done
 emulated() { qemu-aarch64 -cpu cortex-a53 "$@"; }
 quietly emulated "$other/layout"

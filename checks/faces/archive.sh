@@ -1,28 +1,34 @@
 #!/bin/sh
 # Whether the library can be installed and used without the toolchain: sh checks/faces/archive.sh FOLDER, after webassembly.sh
-# The archive has the same bytes whatever the umask, and all users can read what is installed. Another LIBDIR and a shared library can be
-# used too. A new installation leaves no old file, and an uninstallation neither a file nor a folder that was made. What others
-# made stays. What can't be whole changes nothing, and of two installations at once one waits.
+# The archive, the wheel and the crate have the same bytes whatever the umask, the folder and the time of the sources, and the sums beside
+# them. All users can read what is installed. Another LIBDIR and a shared library can be used too. A new installation leaves no old file, and
+# an uninstallation neither a file nor a folder that was made. What others made stays. What can't be whole changes nothing, and of two
+# installations at once one waits.
 . checks/faces/shared.sh
 root=$folder/above/other/root
 export LIBRARY="$folder/libgoblin_c.a" TARGET='' CPU=''
 
 # (a program in place of goblin_show, which another part of a test may build meanwhile)
 printf '#!/bin/sh\ncat "%s/crates/goblin_show/stdout"\n' "$PWD" > "$folder/program"
+mkdir "$folder/copy"
+tar --exclude=.git --exclude=out --exclude=target -cf - . | tar -C "$folder/copy" -xmf -
 for mask in 077 022; do
     mkdir "$folder/$mask&|"
-    (umask $mask && quietly env TMPDIR="$(realpath --relative-to=. "$folder/$mask&|")" PROGRAM="$folder/program" \
-        sh faces/install.sh --archive "$folder/goblin_c.$mask.tar.gz")
+    if [ $mask = 077 ]; then from=$folder/copy; else from=.; fi
+    (umask $mask && cd "$from" && quietly env TMPDIR="$(realpath --relative-to=. "$folder/$mask&|")" PROGRAM="$folder/program" \
+        sh faces/install.sh --archive "$folder/made.$mask/goblin_c.tar.gz")
 done
-quietly cmp "$folder/goblin_c.077.tar.gz" "$folder/goblin_c.022.tar.gz"
-tar -tzf "$folder/goblin_c.022.tar.gz" > "$folder/output"
+quietly diff -r "$folder/made.077" "$folder/made.022"
+(cd "$folder/made.022" && quietly sha256sum -c goblin_c.tar.gz.sha256 goblin_elf-*.whl.sha256 "goblin_rs-$version.crate.sha256")
+archive=$folder/made.022/goblin_c.tar.gz
+tar -tzf "$archive" > "$folder/output"
 grep -qx 'goblin_c-[^/]*/README\.md' "$folder/output" || fail "the archive has no README.md"
-python3 checks/installed.py "$folder/goblin_c.022.tar.gz"
+python3 checks/installed.py "$archive"
 # A client takes the crate from a registry, by its version, and can be packaged. The crate's own tests need no other file.
 if has cargo 'the crate is not taken from a registry'; then
     registry=$folder/registry
     mkdir -p "$registry/index/go/bl" "$folder/client/src" "$folder/client/.cargo"
-    cp "$folder/goblin_rs-$version.crate" "$registry/"
+    cp "$folder/made.022/goblin_rs-$version.crate" "$registry/"
     printf '{"name":"goblin_rs","vers":"%s","deps":[],"cksum":"%s","features":{"default":["std"],"std":[]},"yanked":false}\n' "$version" \
         "$(sha256sum < "$registry/goblin_rs-$version.crate" | awk '{ print $1 }')" > "$registry/index/go/bl/goblin_rs"
     printf '[source.crates-io]\nreplace-with = "local"\n[source.local]\nlocal-registry = "%s"\n' "$registry" \
@@ -47,7 +53,7 @@ if has cargo 'the crate is not taken from a registry'; then
     echo 'a client takes the crate from a registry'
 fi
 find_node
-python3 checks/readme.py "$folder/libgoblin_c.a" "$folder/goblin_c.022.tar.gz" "$(cat "$folder/node" 2> "$folder/output" || :)"
+python3 checks/readme.py "$folder/libgoblin_c.a" "$archive" "$(cat "$folder/node" 2> "$folder/output" || :)"
 
 # With another LIBDIR and a shared library.
 multiarch=lib/x86_64-linux-gnu
@@ -167,7 +173,7 @@ sed -i '/[/]$/d' "$whole/share/goblin_c/library.files"
 leaves_folders "$whole"
 # What is unpacked where others have made folders can be removed, too, and theirs stay.
 mkdir -p "$folder/local/bin" "$folder/local/include"
-tar -C "$folder/local" --strip-components=1 -xzf "$folder/goblin_c.022.tar.gz"
+tar -C "$folder/local" --strip-components=1 -xzf "$archive"
 quietly sh faces/install.sh --uninstall "$folder/local"
 for own in bin include; do [ -d "$folder/local/$own" ] || fail "an uninstallation removes $own, which others made"; done
 ends_with 0 "$folder/local/README.md" find "$folder/local" -type f
@@ -225,7 +231,7 @@ tar -tzf "$some/goblin_c.tar.gz" > "$folder/output"
 grep -qx "goblin_c-$made_for/README.md" "$folder/output" || fail "the archive for some processors has no name of its own: $(cat "$folder/output")"
 # (if two of them had the same time and size, Python would run what it compiled of the earlier one)
 dates() { tar --full-time -tvzf "$1" | awk '{ print $4, $5 }' | sort -u; }
-if [ "$(dates "$some/goblin_c.tar.gz")" = "$(dates "$folder/goblin_c.022.tar.gz")" ]; then fail "the files of two archives have the same time"; fi
+if [ "$(dates "$some/goblin_c.tar.gz")" = "$(dates "$archive")" ]; then fail "the files of two archives have the same time"; fi
 [ -e "$some/x86-64-v3/goblin_elf-$version-py3-none-linux_x86_64.whl" ] || fail "the wheel for some processors has no folder of its own"
 # What can't be written whole leaves the earlier archive and wheel. (Some files may have only 4 KiB, as on a disk that is full.)
 mkdir "$folder/limited"

@@ -1,7 +1,7 @@
 #!/bin/sh
 # Tests the library's calls from C: sh checks/faces/c.sh FOLDER, after library.sh
-# It compares goblin.h with the library and with glibc's <elf.h>, compiles its examples, and runs the programs of faces/c over whole and
-# damaged files that made.c makes.
+# It compares goblin.h with the library and with glibc's <elf.h>, compiles its examples, and runs the programs of faces/c over whole
+# and damaged files that made.c makes.
 . checks/faces/shared.sh
 
 # The value, letter, section index and name of each symbol in the files that made.c makes.
@@ -28,8 +28,9 @@ c V 2 weak_data
 
 # Compiles goblin.h by each standard, and compares its structs with the library's layout.
 check_header() {
-    grep -qxF "#define GOBLIN_VERSION_STRING \"$version\"" faces/c/goblin.h \
-        || fail "goblin.h and faces/rust/Cargo.toml have different versions: GOBLIN_VERSION_STRING is to be \"$version\""
+    { echo "VERSION_STRING \"$version\""; echo "$version" | awk -F . '{ print "PACKAGE_MAJOR " $1 "\nPACKAGE_MINOR " $2 "\nPACKAGE_PATCH " $3 }'; } \
+        | sed 's/^/#define GOBLIN_/' > "$folder/wanted"
+    grep -E '^#define GOBLIN_(VERSION_STRING|PACKAGE_[A-Z]+) ' faces/c/goblin.h | quietly diff "$folder/wanted" -
     python3 faces/constants.py --fields > "$folder/fields.h"
     for standard in c99 c11; do
         build layout -std=$standard
@@ -38,10 +39,10 @@ check_header() {
     "$folder/layout" assertions > "$folder/assertions.c"
     strictly cc -std=c11 -Ifaces/c -c -o "$folder/assertions.o" "$folder/assertions.c"
     if has c++ 'goblin.h is not compiled as C++'; then
-        strictly c++ -x c++ -std=c++11 -I"$folder" -o "$folder/layout" faces/c/layout.c -x none -L"$folder" -lgoblin_c
+        strictly c++ -x c++ -std=c++11 -Ifaces/c -I"$folder" -o "$folder/layout" faces/c/tests/layout.c -x none -L"$folder" -lgoblin_c
         strictly c++ -x c++ -std=c++11 -Ifaces/c -c -o "$folder/assertions.o" "$folder/assertions.c"
         for example in $c_examples; do
-            strictly c++ -x c++ -std=c++11 -Ifaces/c -c -o "$folder/example.o" "faces/c/$example.c"
+            strictly c++ -x c++ -std=c++11 -Ifaces/c -c -o "$folder/example.o" "faces/c/examples/$example.c"
         done
         echo "the examples can be compiled as C++"
     fi
@@ -91,20 +92,33 @@ check_cost() {
         faces/c/goblin.h > "$folder/calls"
     [ -s "$folder/calls" ] || fail "goblin.h has no calls that are passed a file"
     while read -r call; do
-        grep -qE "\b$call\((&[a-z]+|bytes, len)," faces/c/cost.c || fail "$call is passed a file and cost.c does not call it: give it a row there"
+        grep -qE "\b$call(\(|, )(&[a-z]+|bytes, len)," faces/c/tests/cost.c || fail "$call is passed a file and has no row in cost.c"
     done < "$folder/calls"
     quietly "$folder/cost"
     lists=$(wc -l < "$folder/output") calls=$(wc -l < "$folder/calls")
-    echo "c: $lists lists and repeated calls, among them the $calls that are passed a file, take less than their limit (cost.c)"
+    echo "c: $lists lists, searches and repeated calls, among them the $calls that are passed a file, take less than their limit (cost.c)"
 }
 
-# Counts the instructions of calls for one item, by callgrind, over a program and over names that single.c makes. Each limit is a quarter
-# more than was counted: a function that is no longer put into its caller, or a refusal that is prepared before it is needed, costs more.
-# Of 64 strings at once one may take seven tenths of what it takes alone, and a comparison one and a half times what a client's own takes,
-# with its memcmp. Of the program's names most differ, so comparing them has a limit below that, too.
+# Of each call for one item the most instructions that it may take over a program, and of some over the names that single.c makes: at most a
+# tenth more than were counted. So a function that is no longer put into its caller, or a refusal that is prepared before it is needed, costs
+# more. goblin_symbol_by_address is counted for each symbol of the table, so a second reading of them all costs more, too.
+instructions='goblin_file 79
+goblin_section 52
+goblin_symbol 33
+goblin_symbol_by_address 48
+goblin_reloc 34
+goblin_note 63
+goblin_note_utf8 76
+goblin_string 49 70
+goblin_string_utf8 64
+goblin_string_is 35 82
+goblin_string_starts 38'
+
+# Counts the instructions of these calls, by callgrind, over a program and over names that single.c makes. Of 64 strings at once one may take
+# seven tenths of what it takes alone, and a comparison one and a half times what a client's own takes, with its memcmp.
 check_instructions() {
     has valgrind 'the instructions of calls for one item are not counted' || return 0
-    # (the limits count what gcc makes of a client's own comparison, and clang makes fewer instructions)
+    # (what gcc makes of a client's own comparison is counted, and clang makes fewer instructions)
     case $(cc --version) in *clang*) left_out "cc is clang, so the instructions of calls for one item are not counted" && return 0 ;; esac
     build single -std=c99
     for file in $program_file ''; do
@@ -114,16 +128,12 @@ check_instructions() {
         if ! "$folder/single" $file > "$folder/calls" || [ ! -s "$folder/calls" ]; then fail "single.c reads nothing of ${file:-its names}"; fi
         callgrind_annotate --inclusive=yes --threshold=100 "$folder/counts" > "$folder/listed"
         while read -r call times; do
-            case $file$call in
-                goblin_string) limit=90 ;; goblin_string_is) limit=$((own * 3 / 2)) ;; *goblin_string_is) limit=46 ;; *starts) limit=50 ;;
-                *file) limit=84 ;; *section) limit=81 ;; *symbol) limit=45 ;; *reloc) limit=54 ;; *string_utf8) limit=73 ;; *string) limit=67 ;;
-                *strings) limit=$((alone * 7 / 10)) ;; *) limit=100 ;;
-            esac
             all=$(awk -v call="$call" '$0 ~ ":" call " " { gsub(/,/, "", $1); print $1; exit }' "$folder/listed")
             each=$((${all:-0} / times))
-            if [ "$each" -eq 0 ] || [ "$each" -gt "$limit" ]; then fail "$call takes $each instructions, and its limit is $limit"; fi
-            case $call in *string) alone=$each ;; plain*) own=$each ;; esac
+            limit=$(echo "$instructions" | awk -v call="$call" -v made="${file:+no}" '$1 == call { print made ? $2 : $3 }')
+            case $call in plain_is) own=$each limit=$each ;; *strings) limit=$((alone * 7 / 10)) ;; *string) alone=$each ;; esac
             case $call in *_is | *starts) [ "$each" -le $((own * 3 / 2)) ] || fail "$call takes $each instructions, and a client $own" ;; esac
+            if [ "$each" -eq 0 ] || [ "$each" -gt "$limit" ]; then fail "$call takes $each instructions, and its limit is $limit"; fi
             printf '%s %s of %s, ' "$call" "$each" "$limit" >> "$folder/counted"
         done < "$folder/calls"
     done
@@ -133,7 +143,7 @@ check_instructions() {
 check_bench() {
     echo '#include <gelf.h>' | cc -E - > "$folder/output" 2>&1 \
         || { left_out "the header of libelf is not installed, so bench.c is not compiled"; return; }
-    strictly cc -std=c99 -Ifaces/c -o "$folder/bench" faces/c/bench.c -L"$folder" -lgoblin_c -lelf
+    strictly cc -std=c99 -Ifaces/c -o "$folder/bench" faces/c/tests/bench.c -L"$folder" -lgoblin_c -lelf
     quietly "$folder/bench" $program_file
     echo "bench.c reads what libelf reads"
 }
@@ -285,7 +295,7 @@ check_programs() {
     ends_with 1 "*	$program_file" sh -c 'ulimit -n 16 && exec "$@"' sh "$folder/size" . . . . . . . . . . . . . . . . . . . . $program_file
     # (values.c shares no code with the others; its main is called many times)
     {
-        cat faces/c/values.c
+        cat faces/c/examples/values.c
         echo '#undef main'
         echo 'int main(int argc, char **argv) { for (int i = 0; i < 20; i++) values(argc, argv); return values(argc, argv); }'
     } > "$folder/often.c"
@@ -304,7 +314,7 @@ check_damaged() {
         set --
     fi
     build damaged -std=c99 "$@"
-    strictly cc -std=c99 -Ifaces/c -o "$folder/plain" faces/c/damaged.c faces/c/plain.c
+    strictly cc -std=c99 -Ifaces/c -o "$folder/plain" faces/c/tests/damaged.c faces/c/tests/plain.c
     for file in checks/files/made/s390x_program checks/files/made/mips_program "$folder/nm" "$folder/made" "$files"; do
         if [ -d "$file" ]; then set -- "$file"/*; else set -- "$file"; fi
         quietly "$folder/plain" 1000 "$@"
@@ -317,9 +327,7 @@ check_damaged() {
 
 check_header
 check_examples
-for program in $c_examples made search cost; do build "$program" -std=c99; done
-quietly "$folder/search"
-echo "c: $(wc -l < "$folder/output") searches among long names take less than their limit (search.c)"
+for program in $c_examples made cost; do build "$program" -std=c99; done
 check_cost
 check_instructions
 check_bench

@@ -15,7 +15,7 @@ for commands in 'chromium chromium-browser google-chrome' 'firefox firefox-esr';
     name=${commands%% *} browser=
     for command in $commands; do if [ -z "$browser" ] && has "$command"; then browser=$command; fi; done
     if [ "$browser" ]; then
-        { node faces/web/browser.mjs "$name" "$browser" "$page" "$folder/dump" "$files" checks/files > "$folder/$name.said" 2>&1 \
+        { node faces/page/browser.mjs "$name" "$browser" "$page" "$folder/dump" "$files" checks/files > "$folder/$name.said" 2>&1 \
             || touch "$folder/$name.failed"; } &
         opened="$opened $name"
     else left_out "$name is not installed, so the page is not opened in it"; fi

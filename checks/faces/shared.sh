@@ -10,12 +10,12 @@ if [ -z "$folder" ]; then
     trap 'rm -rf "$folder"' EXIT
     trap 'exit 1' HUP INT TERM
 fi
-# The folders of the files that faces/c/made.c makes, and of the examples that cargo builds.
+# The folders of the files that faces/c/tests/made.c makes, and of the examples that cargo builds.
 files=$folder/files examples=$folder/target/debug/examples
 # A program for x86-64. What readelf prints of it is stored beside it.
 program_file=checks/files/made/x86_64_program
-# The examples of faces/c.
-c_examples='execstack flag needed nm pread size strings symbolize truncated values'
+# The examples in C.
+c_examples=$(basename -s .c faces/c/examples/*.c)
 # The version of all that is installed.
 version=$(awk -F '"' '/^version = / { print $2; exit }' faces/rust/Cargo.toml)
 
@@ -99,11 +99,11 @@ strictly() {
     cat "$folder/output"
 }
 
-# Compiles a program of faces/c.
+# Compiles an example or a test in C.
 build() {
     program=$1
     shift
-    strictly cc "$@" -I"$folder" -o "$folder/$program" "faces/c/$program.c" -L"$folder" -lgoblin_c
+    strictly cc "$@" -Ifaces/c -I"$folder" -o "$folder/$program" faces/c/*/"$program.c" -L"$folder" -lgoblin_c
 }
 
 # Leaves the command that runs node with 64-bit memories in the file node of the folder, if node has them, and sets the flag that it takes.

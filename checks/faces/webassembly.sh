@@ -18,8 +18,8 @@ call() { node ${flag:+"$flag"} "$@"; }
 if [ -e "$folder/node" ]; then
     call faces/web/test.mjs "$web" "$dump" "$files"/* $program_file
     call faces/web/calls.mjs "$web" "$files"/* $program_file
-    call faces/web/many.mjs "$web"
-    missing="$folder has no goblin.js and no constants.js and no goblin_c.wasm*python3 faces/constants.py*"
+    for part in facts times; do call faces/page/modules.mjs "$web" $part; done
+    missing="$folder has no goblin.js and no constants.js and no interface.js and no goblin_c.wasm*python3 faces/constants.py*"
     for script in test calls; do ends_with 2 "$missing" call faces/web/$script.mjs "$folder"; done
     example() { (name=$1; shift; call "$web/examples/$name.mjs" "$@"); }
     try_examples needed segments truncated flag

@@ -16,7 +16,7 @@ root=$PWD
 folder=$(mktemp -d)
 trap 'rm -rf "$folder"' EXIT
 trap 'exit 1' HUP INT TERM
-cp checks/files/library.c checks/files/program.c faces/c/goblin.h faces/c/damaged.c faces/c/plain.c "$folder"
+cp checks/files/library.c checks/files/program.c faces/c/goblin.h faces/c/tests/damaged.c faces/c/tests/plain.c "$folder"
 cd "$folder"
 printf '%s\n' 'MADE_1 { };' 'MADE_2 { } MADE_1;' > versions
 
@@ -100,7 +100,7 @@ for file in types.*; do
 done > "$above/relocation_names"
 
 # The names that the page's test reads in any case, and some of libstdc++.
-{ sed -n "/^const READ = /,/;/p" "$root/faces/web/browser.mjs" | grep -o "_Z[^']*"
+{ sed -n "/^const READ = /,/;/p" "$root/faces/page/browser.mjs" | grep -o "_Z[^']*"
     readelf -W --dyn-syms /usr/lib/x86_64-linux-gnu/libstdc++.so.6 | grep -o '_Z[^ @]*' | sort -u | awk 'NR % 32 == 0'; } > names
 c++filt -n < names > filtered
 paste names filtered > "$above/mangled"

@@ -99,8 +99,11 @@ extern "C" {
    refusals, leave it as it is: a program may be linked with a later library of the same number. goblin_version()
    returns the library's, which must be the same. */
 #define GOBLIN_VERSION 8
-/* The version of the package that this file is part of. */
+/* The version of the package that this file is part of, and its three numbers. GOBLIN_VERSION is not one of these. */
 #define GOBLIN_VERSION_STRING "0.9.0"
+#define GOBLIN_PACKAGE_MAJOR 0
+#define GOBLIN_PACKAGE_MINOR 9
+#define GOBLIN_PACKAGE_PATCH 0
 
 /* In C++ the numbers below have the type that calls return, so that `?:` takes a call and a number for one type. */
 #if defined __cplusplus && __cplusplus >= 201103L

@@ -9,13 +9,13 @@ import { join, resolve } from 'node:path';
 import { pathToFileURL } from 'node:url';
 import { inspect } from 'node:util';
 import { runInNewContext } from 'node:vm';
-import { dynamic_file, elf_file, longs, note, noted_file, packed, patched, symbol } from './elves.mjs';
+import { data, dynamic_file, elf_file, longs, note, noted_file, packed, patched, symbol, times } from './elves.mjs';
 import { import_goblin } from './tested.mjs';
 
 const [, , web, ...paths] = process.argv;
 const goblin = await import_goblin(web);
 const { Elf, GoblinError, Kind } = goblin;
-const files = paths.map((path) => readFileSync(path));
+const stored = new URL('../../', import.meta.url), files = paths.map((path) => readFileSync(path));
 const own = files.at(-1); // (a program for this machine, with relocations and both symbol tables)
 // Two notes, and a file that has them in a section and in a segment.
 const NOTES = [['GNU', 3, 'abcd'], ['goblin', 0x1234, 'hello']];
@@ -24,26 +24,33 @@ const noted =
     elf_file({ sections: [{ name: '.note', type: 7, bytes: note_bytes }], segments: [{ type: 4, bytes: note_bytes }] });
 files.push(noted);
 
-const WITHOUT_EXPORTS = Uint8Array.of(0, 0x61, 0x73, 0x6d, 1, 0, 0, 0);
+const END = (1n << 64n) - 1n, WITHOUT_EXPORTS = Uint8Array.of(0, 0x61, 0x73, 0x6d, 1, 0, 0, 0);
 
 // Adds a check, which may return what it counts.
 const checks = [], check = (title, run) => checks.push({ title, run });
 
-// Returns what reading throws.
+// Returns what reading returns or throws. And what an error is expected to be.
 const error_of = (read) => { try { return read(); } catch (error) { return error; } };
 const is_refusal = (kind, offset) => (error) => error instanceof GoblinError
     && (kind === undefined || error.kind === kind) && (offset === undefined || error.offset === offset);
+const type_error = (expected) => ({ name: 'TypeError', message: new RegExp(`^${expected} `) });
+// Asserts that each of some calls throws what is expected.
+const throw_all = (wanted, ...calls) => calls.flat().forEach((call) => assert.throws(call, wanted));
+
+// Returns the sum of what a function counts in each file, and asserts that this is much.
+function sum_over(contents, least, count) {
+    const sum = contents.reduce((all, content) => all + count(Elf.parse(content), content), 0);
+    assert.ok(sum >= least, `${sum}`);
+    return sum;
+}
 
 check('Without 64-bit memories an error says which engines have them', async () => {
-    assert.throws(() => Elf.parse(own), /not ready/);
-    assert.throws(() => goblin.et_to_str(1), /not ready/);
+    throw_all(/not ready/, () => Elf.parse(own), () => goblin.et_to_str(1));
     // (in some browsers a person can turn WebAssembly off)
-    const { WebAssembly } = globalThis, words =
-        ['memory64', '--experimental-wasm-memory64', 'Chromium 133', 'Firefox 134', 'Node.js 24'];
-    for (const without of [{ validate: () => false }, undefined]) {
-        globalThis.WebAssembly = without;
+    const { WebAssembly } = globalThis,
+        words = ['memory64', '--experimental-wasm-memory64', 'Chromium 133', 'Firefox 134', 'Node.js 24'];
+    for (globalThis.WebAssembly of [{ validate: () => false }, undefined])
         await assert.rejects(goblin.default(), ({ message }) => words.every((word) => message.includes(word)));
-    }
     globalThis.WebAssembly = WebAssembly;
 });
 
@@ -56,28 +63,23 @@ function without(module, name) {
 }
 
 check('A module of another interface or without an export is refused, and replaces none', async () => {
-    const module = readFileSync(join(web, 'goblin_c.wasm')),
+    const module = readFileSync(join(web, 'goblin_c.wasm')), { VERSION } = goblin,
         exported = WebAssembly.Module.exports(new WebAssembly.Module(module));
-    const refused = async (source, words) => {
+    // (a function that returns a number, with the name goblin_version)
+    const version = (number) => Uint8Array.of(...WITHOUT_EXPORTS, 1, 5, 1, 0x60, 0, 1, 0x7f, 3, 2, 1, 0, 7,
+        18, 1, 14, ...Buffer.from('goblin_version'), 0, 0, 10, 6, 1, 4, 0, 0x41, number, 0x0b);
+    for (const [source, words] of [...exported.map(({ name }) =>
+        [without(module, name), name === 'goblin_version' ? 'none' : `no ${name}:`]), [WITHOUT_EXPORTS, 'none'],
+    [version(VERSION + 1), `for interface ${VERSION}, but the module has ${VERSION + 1}:`],
+    [version(VERSION), 'no memory, __heap_base, goblin_layout,']]) {
         await assert.rejects(goblin.default(source), ({ message }) => message.includes(words));
         assert.throws(() => Elf.parse(own), /not ready/);
-    };
-    for (const { name } of exported)
-        await refused(without(module, name), name === 'goblin_version' ? 'none' : `no ${name}:`);
-    // (a function that returns a number, with the name goblin_version)
-    const version = (number) => Uint8Array.of(0, 0x61, 0x73, 0x6d, 1, 0, 0, 0, 1, 5, 1, 0x60, 0, 1, 0x7f, 3, 2, 1, 0, 7,
-        18, 1, 14, ...Buffer.from('goblin_version'), 0, 0, 10, 6, 1, 4, 0, 0x41, number, 0x0b);
-    await refused(version(goblin.VERSION + 1),
-        `for interface ${goblin.VERSION}, but the module has ${goblin.VERSION + 1}:`);
-    await refused(version(goblin.VERSION), 'no memory, __heap_base, goblin_layout,');
-    await refused(WITHOUT_EXPORTS, 'none');
+    }
     await goblin.default(new WebAssembly.Module(module));
     await assert.rejects(goblin.default(WITHOUT_EXPORTS));
     // (as of a bundler that gives the address as a text)
-    for (const source of ['/goblin_c.wasm', null, 5]) {
-        await assert.rejects(goblin.default(source),
-            { name: 'TypeError', message: /^a module, its bytes or its URL is expected, not / });
-    }
+    for (const source of ['/goblin_c.wasm', null, 5])
+        await assert.rejects(goblin.default(source), type_error('a module, its bytes or its URL is expected, not'));
     assert.equal(Elf.parse(own).section_headers().length, own.readUInt16LE(60));
     await goblin.default();
     return `${exported.length} exports`;
@@ -85,8 +87,7 @@ check('A module of another interface or without an export is refused, and replac
 
 check('A file may be in bytes of each kind, and nothing else', () => {
     const length = own.length + 8 - own.length % 8, whole = new ArrayBuffer(length + 16),
-        shared = new SharedArrayBuffer(length);
-    const within = new Uint8Array(whole, 16, length);
+        shared = new SharedArrayBuffer(length), within = new Uint8Array(whole, 16, length);
     within.set(own);
     new Uint8Array(shared).set(own);
     const buffer = within.slice().buffer, other = runInNewContext('new ArrayBuffer(length)', { length });
@@ -104,17 +105,16 @@ check('A file may be in bytes of each kind, and nothing else', () => {
     assert.ok(names(wanted).includes('.text'));
     for (const [what, bytes] of Object.entries(given)) {
         const elf = Elf.parse(bytes);
-        assert.deepEqual(elf.header, wanted.header, what);
-        assert.deepEqual(names(elf), names(wanted), what);
+        assert.deepEqual([elf.header, names(elf)], [wanted.header, names(wanted)], what);
     }
     structuredClone(buffer, { transfer: [buffer] });
     const wrong = [undefined, null, 'ELF', 5, 5n, true, [...own.subarray(0, 64)], {}, { length: 64 }, new Map(),
         new Blob([own]), Promise.resolve(own), () => own, Symbol('ELF'), { [Symbol.toStringTag]: 'ArrayBuffer' },
         buffer, given.Uint8Array];
-    for (const bytes of wrong) assert.throws(() => Elf.parse(bytes), TypeError);
-    assert.throws(() => Elf.parse('ELF'), /ArrayBuffer.* string/);
-    assert.throws(() => new Elf(own), { name: 'TypeError', message: /by Elf\.parse/ });
-    assert.throws(() => Elf.parse(new ArrayBuffer(0)), is_refusal(Kind.TOO_SMALL));
+    throw_all(TypeError, wrong.map((bytes) => () => Elf.parse(bytes)));
+    throw_all(/ArrayBuffer.* string/, () => Elf.parse('ELF'));
+    throw_all({ name: 'TypeError', message: /by Elf\.parse/ }, () => new Elf(own));
+    throw_all(is_refusal(Kind.TOO_SMALL), () => Elf.parse(new ArrayBuffer(0)));
     // A file that is read part by part is not copied. If the memory grows, its bytes are in another array.
     const parts = goblin.array_for(own.length);
     for (let at = 0; at < own.length; at += 1000) parts.set(own.subarray(at, at + 1000), at);
@@ -125,16 +125,22 @@ check('A file may be in bytes of each kind, and nothing else', () => {
     assert.deepEqual([parts.length, own.equals(elf.bytes), own.equals(wanted.bytes), names(Elf.parse(parts))],
         [0, true, true, names(wanted)]);
     // (a header of HTTP has a size as a text)
-    for (const size of ['5', null, [5], true])
-        assert.throws(() => goblin.array_for(size), { name: 'TypeError', message: /^a number is expected, not / });
+    throw_all(type_error('a number is expected, not'),
+        ['5', null, [5], true].map((size) => () => goblin.array_for(size)));
     return `${Object.keys(given).length} kinds of bytes`;
 });
 
 // Returns the items that a function returns for the indices of a list, or for all up to the first without an item.
-const of_each = ({ length }, by_index) => Array.from({ length }, (_, index) => by_index(index));
+const of_each = ({ length }, by_index) => times(length, by_index);
 function each(by_index) {
     const items = [];
     for (let item; (item = by_index(items.length)) !== undefined;) items.push(item);
+    return items;
+}
+// Returns the items that a function is given with their indices.
+function placed(give) {
+    const items = [];
+    give((item, index) => { items[index] = item; });
     return items;
 }
 
@@ -158,7 +164,7 @@ const WAYS = {
     'a generator over it': (list) => [...(function* go() { yield* list; }())],
     map: (list) => list.map((item) => item),
     'map by indices': (list) => list.map((_, index) => list.at(index)),
-    forEach: (list) => { const items = []; list.forEach((item, index) => { items[index] = item; }); return items; },
+    forEach: (list) => placed((put) => list.forEach(put)),
     filter: (list) => list.filter(() => true),
     'filter by indices': (list) => of_each(list, (wanted) => list.filter((_, index) => index === wanted)).flat(),
     find: (list) => of_each(list, (wanted) => list.find((_, index) => index === wanted)),
@@ -171,11 +177,7 @@ const WAYS = {
     slice: (list) => [...list.slice(0, 1), ...list.slice(1)],
     'an index in brackets': (list) => of_each(list, (index) => list[index]),
     entries: (list) => [...list.entries()].map(([, item]) => item),
-    'entries by indices': (list) => {
-        const items = [];
-        for (const [index, item] of list.entries()) items[index] = item;
-        return items;
-    },
+    'entries by indices': (list) => placed((put) => { for (const [index, item] of list.entries()) put(item, index); }),
     'at and length': (list) => of_each(list, (index) => list.at(index)),
     'at from the end': (list) => of_each(list, (index) => list.at(index - list.length)),
     'at until there is none': (list) => each((index) => list.at(index)),
@@ -192,19 +194,16 @@ function has_each(list, items, what) {
     const ways = Object.entries(list instanceof goblin.List ? { ...WAYS, ...WAYS_OF_LISTS } : WAYS);
     for (const [name, way] of ways) assert.deepEqual(way(list), items, `${what}, by ${name}`);
     assert.equal(list.length, items.length, what);
-    for (const index of [0, 1, -1, items.length, -items.length - 1, 1.9, -0.5, NaN, Infinity,
-        -Infinity, undefined, '1']) {
+    for (const index of [0, 1, -1, items.length, -items.length - 1, 1.9, -0.5, NaN, Infinity, -Infinity, undefined,
+        '1'])
         assert.deepEqual(list.at(index), items.at(index), `${what}, at ${index}`);
-    }
-    for (const [start, end] of [[], [1], [-1], [0, -1], [1, 2], [2, 1], [-3, -1], [0.5, 1.5],
-        [-Infinity, Infinity], [NaN, 1]]) {
+    for (const [start, end] of [[], [1], [-1], [0, -1], [1, 2], [2, 1], [-3, -1], [0.5, 1.5], [-Infinity, Infinity],
+        [NaN, 1]])
         assert.deepEqual(list.slice(start, end), items.slice(start, end), `${what}, from ${start} to ${end}`);
-    }
     for (const name of [items.length, -1, 1.5, '01']) assert.equal(list[name], undefined);
     if (list instanceof goblin.List) assert.throws(() => { list[0] = items[0]; }, TypeError);
     if (items.length === 0) assert.throws(() => list.reduce(() => 0), TypeError);
-    assert.equal(list.some(() => false), false);
-    assert.equal(list.find(() => false), undefined);
+    assert.deepEqual([list.some(() => false), list.find(() => false)], [false, undefined]);
     assert.equal(JSON.stringify(list), JSON.stringify(items), what);
 }
 
@@ -213,8 +212,7 @@ function lists_of(whole) {
     const { e_phoff, e_phnum, e_shoff, e_shnum } = whole.header,
         [of_segment, of_section] = whole.is_64() ? [56n, 64n] : [32n, 40n];
     const segments = each((i) => whole.program_header(i)), sections = each((i) => whole.section_header(i));
-    assert.equal(segments.length, e_phnum);
-    assert.equal(sections.length, e_shnum);
+    assert.deepEqual([segments.length, sections.length], [e_phnum, e_shnum]);
     const of_segments = e_phnum ? e_phoff + of_segment * BigInt(e_phnum) : 0n,
         of_sections = e_shoff + of_section * BigInt(e_shnum);
     const end = ({ sh_offset, sh_size }) => sh_offset + sh_size,
@@ -222,10 +220,8 @@ function lists_of(whole) {
     const made = [], add = (...list) => made.push(list);
     add('program headers', (elf) => elf.program_headers(), of_segments, segments);
     add('section headers', (elf) => elf.section_headers(), of_sections, sections);
-    for (const segment of segments) {
-        const held = sections.slice(1).filter((section) => goblin.segment_holds(segment, section));
-        add('sections of a segment', (elf) => elf.segment_sections(segment), of_sections, held);
-    }
+    for (const segment of segments) add('sections of a segment', (elf) => elf.segment_sections(segment), of_sections,
+        sections.slice(1).filter((section) => goblin.segment_holds(segment, section)));
     const of_type = (...types) => sections.filter(({ sh_type }) => types.includes(sh_type)),
         items_of = (list) => each((i) => list.get(i));
     for (const section of of_type(goblin.SHT_SYMTAB, goblin.SHT_DYNSYM)) {
@@ -235,32 +231,30 @@ function lists_of(whole) {
         add(first, (elf) => elf[first](), needed, items);
     }
     const of_relocs = of_type(goblin.SHT_REL, goblin.SHT_RELA),
-        relocs = of_relocs.map((of) => [of, items_of(whole.relocs(of))]);
-    for (const [section, items] of relocs) add('relocations', (elf) => elf.relocs(section), end(section), items);
-    const pairs = (elf) => elf.shdr_relocs().map(([section, list]) => [section, [...list]]);
-    add('sections of relocations', pairs, latest(of_sections, ...of_relocs.map(end)), relocs);
+        relocs = of_relocs.map((of) => [sections.indexOf(of), items_of(whole.relocs(of))]);
+    of_relocs.forEach((of, i) => add('relocations', (elf) => elf.relocs(of), end(of), relocs[i][1]));
+    add('sections of relocations', (elf) => elf.shdr_relocs().map(([index, list]) => [index, [...list]]),
+        latest(of_sections, ...of_relocs.map(end)), relocs);
     // (the padding of the last descriptor isn't needed)
     const end_of_notes = (notes) => latest(...notes.map(({ desc_range: { offset, size } }) => offset + size));
     const plain = (items) => JSON.parse(JSON.stringify(items)),
         as_bytes = (notes) => plain(notes).map(({ name_bytes, ...others }) => ({ ...others, name: name_bytes }));
-    const add_notes = (all_of, headers, holders) => {
+    for (const [all_of, headers, holders] of [['iter_note_sections', of_sections, of_type(goblin.SHT_NOTE)],
+        ['iter_note_headers', of_segments, segments.filter(({ p_type }) => p_type === goblin.PT_NOTE)]]) {
         const each_one = holders.map((holder) => [holder, whole.notes(holder)]),
             all = holders.flatMap((holder) => whole.notes_bytes(holder));
         for (const [holder, notes] of each_one) add('notes', (elf) => elf.notes(holder), end_of_notes(notes), notes);
         add(all_of, (elf) => as_bytes(elf[all_of]()), latest(headers, end_of_notes(all)), plain(all));
-    };
-    add_notes('iter_note_sections', of_sections, of_type(goblin.SHT_NOTE));
-    add_notes('iter_note_headers', of_segments, segments.filter(({ p_type }) => p_type === goblin.PT_NOTE));
+    }
     return made;
 }
 
 check('The call that makes a list of a cut file throws, or the list has all items', () => {
     let refused = 0, made = 0;
     for (const content of files) {
-        const lists = lists_of(Elf.parse(content)), step = Math.ceil(content.length / 2000);
-        const ends = new Set(lists.flatMap(([, , needed]) =>
-            [Number(needed) - 1, Number(needed), Number(needed) + 1, content.length]));
-        for (let end = 64; end < content.length; end += step) ends.add(end);
+        const lists = lists_of(Elf.parse(content)), step = Math.ceil(content.length / 2000),
+            ends = new Set([...lists.flatMap(([, , needed]) => [-1, 0, 1].map((more) => Number(needed) + more)),
+                content.length, ...times(2000, (i) => 64 + i * step)]);
         for (const end of [...ends].filter((end) => end >= 64 && end <= content.length)) {
             const elf = Elf.parse(content.subarray(0, end));
             for (const [what, make, needed, items] of lists) {
@@ -281,10 +275,9 @@ check('The call that makes a list of a cut file throws, or the list has all item
 });
 
 check('The headers that are inside a file are all that `whole` has', () => {
-    let cut = 0;
-    for (const content of files) {
-        const elf = Elf.parse(content), { e_shoff, e_phoff } = elf.header,
-            [of_segment, of_section] = elf.is_64() ? [56, 64] : [32, 40];
+    const cut = sum_over(files, 100, (elf, content) => {
+        const { e_shoff, e_phoff } = elf.header, [of_segment, of_section] = elf.is_64() ? [56, 64] : [32, 40];
+        let cut = 0;
         assert.deepEqual(elf.whole().header, elf.header);
         for (const [name, start, size] of [['section_header', Number(e_shoff), of_section],
             ['program_header', Number(e_phoff), of_segment]]) {
@@ -297,34 +290,32 @@ check('The headers that are inside a file are all that `whole` has', () => {
                 has_each(list, all.slice(0, inside), `whole ${name}s of the first ${end} bytes`);
                 assert.deepEqual([list.get(inside), whole[name](inside), whole.whole().header],
                     [undefined, undefined, whole.header]);
-                if (inside === all.length) assert.equal(part[`${name}s`]().length, inside);
-                else assert.throws(() => part[`${name}s`](), is_refusal());
-                if (inside < all.length) cut++;
+                const found = error_of(() => part[`${name}s`]());
+                assert.ok(inside < all.length ? is_refusal()(found) : found.length === inside);
+                cut += Number(inside < all.length);
             }
         }
-    }
+        return cut;
+    });
     // the first section header has the number of headers, and is not inside the file
-    const without = Buffer.from(own), { e_shoff } = Elf.parse(own).header;
-    without.writeUInt16LE(0, 60);
-    const whole = Elf.parse(without.subarray(0, Number(e_shoff) + 63)).whole();
+    const { e_shoff } = Elf.parse(own).header,
+        whole = Elf.parse(patched(own, [60, 0, 2]).subarray(0, Number(e_shoff) + 63)).whole();
     assert.deepEqual([whole.section_headers().length, whole.header.e_shoff, whole.section('.text')],
         [0, 0n, undefined]);
-    assert.ok(cut > 100, `${cut} lists are cut`);
     return `${cut} lists that are cut`;
 });
 
 check('If e_phnum is 0xffff, the first section has the number of segments', () => {
     const bytes = new Uint8Array(own), elf = Elf.parse(bytes), segments = [...elf.program_headers()],
-        first = elf.section_header(0);
-    const writer = elf.writer(bytes);
-    assert.equal(writer.put_section_header(0, { ...first, sh_info: 70000 }), true);
+        first = elf.section_header(0), writer = elf.writer(bytes);
+    writer.put_section_header(0, { ...first, sh_info: 70000 });
     writer.put_header({ ...elf.header, e_phnum: 0xffff });
-    assert.throws(() => Elf.parse(bytes).program_headers(),
-        ({ kind, numbers }) => kind === Kind.BUFFER_TOO_SHORT && numbers[0] === 70000n);
+    throw_all(({ kind, numbers }) => kind === Kind.BUFFER_TOO_SHORT && numbers[0] === 70000n,
+        () => Elf.parse(bytes).program_headers());
     writer.put_section_header(0, { ...first, sh_info: segments.length - 1 });
     assert.deepEqual([...Elf.parse(bytes).program_headers()], segments.slice(0, -1));
     const cut = Elf.parse(bytes.subarray(0, Number(elf.header.e_shoff)));
-    assert.throws(() => cut.program_headers(), is_refusal(Kind.BAD_OFFSET, elf.header.e_shoff));
+    throw_all(is_refusal(Kind.BAD_OFFSET, elf.header.e_shoff), () => cut.program_headers());
     const room = Math.floor((Number(elf.header.e_shoff) - 64) / 56);
     assert.deepEqual([cut.whole().program_headers().length, cut.whole().header.e_phnum], [room, room]);
     // a core of 70,000 segments
@@ -338,143 +329,118 @@ check('If e_phnum is 0xffff, the first section has the number of segments', () =
 });
 
 // (test.mjs compares what is written with what C writes.)
-check('A writer says whether there is such an item, and what is refused changes no bytes', () => {
-    const { BAD_OFFSET, DATA, INTEGER_FIT, INVALID_CLASS, SECTION_TYPE } = Kind;
-    let written = 0;
-    for (const content of files.slice(0, -1)) {
-        const bytes = new Uint8Array(content), elf = Elf.parse(bytes), writer = elf.writer(bytes), { header } = elf;
+check('What is refused of a writer says why, also past the end of a list, and changes no bytes', () => {
+    const { BAD_OFFSET, DATA, INTEGER_FIT, INVALID_CLASS, NO_ITEM, NUMBER_WIDTH, SECTION_TYPE } = Kind;
+    const written = sum_over(files.slice(0, -1), 50, (elf, content) => {
+        const bytes = new Uint8Array(content), writer = elf.writer(bytes), { header } = elf;
         const section_of = (type) => elf.section_by_type(type).section, text = elf.section('.text');
         const table = section_of(goblin.SHT_SYMTAB), rela = section_of(goblin.SHT_RELA);
         const symbol = elf.symtab(table).get(0), section = elf.section_header(1), reloc = elf.relocs(rela).get(1),
             wide = { ...reloc, r_sym: 1n << 40n }, rel = { ...rela, sh_type: goblin.SHT_REL }, [low] = elf.relocs(rel);
         const [of_section, of_rela, of_info, of_symbol, of_index] =
             elf.is_64() ? [64n, 24n, 8n, 24n, 6n] : [40n, 12n, 4n, 16n, 14n];
-        for (const [list_of, put, change] of [
-            [(read) => read.section_headers(), (index, item) => writer.put_section_header(index, item),
-                ({ sh_info, sh_addr }) => ({ sh_info: sh_info ^ 5, sh_addr: sh_addr ^ 9n })],
-            [(read) => read.program_headers(), (index, item) => writer.put_program_header(index, item),
-                ({ p_flags }) => ({ p_flags: p_flags ^ 1 })],
-            [(read) => read.symtab(table), (index, item) => writer.put_symbol(table, index, item),
-                () => ({ st_size: 7n, st_other: 2 })],
-            [(read) => read.relocs(rela), (index, item) => writer.put_reloc(rela, index, item),
-                () => ({ r_addend: -3n, r_type: 4 })],
+        const puts = { header: (item) => writer.put_header(item),
+            section: (item, index = 1) => writer.put_section_header(index, item),
+            segment: (item, index) => writer.put_program_header(index, item),
+            symbol: (item, index = 0) => writer.put_symbol(table, index, item),
+            reloc: (item, index = 1) => writer.put_reloc(rela, index, item),
+            rel: (item) => writer.put_reloc(rel, 0, item) };
+        let written = 0;
+        for (const [name, list_of, start, change] of [
+            ['section', (read) => read.section_headers(), header.e_shoff, { sh_info: 0x55, sh_addr: 0x99n }],
+            ['segment', (read) => read.program_headers(), header.e_phoff, { p_flags: 0x55 }],
+            ['symbol', (read) => read.symtab(table), table.sh_offset, { st_size: 7n, st_other: 2 }],
+            ['reloc', (read) => read.relocs(rela), rela.sh_offset, { r_addend: -3n, r_type: 4 }],
         ]) {
-            const items = [...list_of(elf)];
+            const items = [...list_of(elf)], { length } = items, put = puts[name];
             for (const [index, item] of items.entries()) {
-                const changed = { ...item, ...change(item) };
-                assert.equal(put(index, changed), true);
-                assert.deepEqual({ ...list_of(Elf.parse(bytes)).get(index) }, changed);
-                put(index, item);
+                assert.equal(put({ ...item, ...change }, index), undefined);
+                assert.deepEqual({ ...list_of(Elf.parse(bytes)).get(index) }, { ...item, ...change });
+                put(item, index);
             }
-            if (items.length > 0) assert.equal(put(items.length, items[0]), false);
-            written += items.length;
+            const error = error_of(() => put(items[0] ?? Elf.parse(noted).program_header(0), length));
+            assert.deepEqual([error.kind, error.numbers[0], error.offset, error.message],
+                [NO_ITEM, BigInt(length), start, `There is no item ${length} to write`]);
+            written += length;
         }
         assert.deepEqual([writer.put_header(header), writer.put_number(16, 2, header.e_type),
             writer.put_number_in(text, 2, 2, elf.number_in(text, 2, 2))], [undefined, undefined, undefined]);
+        const in_rela = rela.sh_offset + of_rela, in_symbol = table.sh_offset + of_symbol;
         for (const [put, kind, offset] of [[() => writer.put_symbol({ ...table, sh_type: 1 }, 0, symbol), SECTION_TYPE],
             [() => writer.put_reloc({ ...rela, sh_type: 1 }, 1, reloc), SECTION_TYPE],
-            [() => writer.put_reloc(rela, 1, { ...reloc, r_addend: undefined }), INTEGER_FIT,
-                rela.sh_offset + of_rela + 2n * of_info],
-            [() => writer.put_reloc(rel, 0, { ...low, r_addend: 0n }), INTEGER_FIT, rel.sh_offset + 2n * of_info],
-            [() => writer.put_reloc(rel, 0, { ...low, r_addend: -3n }), INTEGER_FIT, rel.sh_offset + 2n * of_info],
-            [() => writer.put_symbol(table, 1, { ...symbol, st_name: 0x100000003n }), INTEGER_FIT,
-                table.sh_offset + of_symbol],
-            [() => writer.put_symbol(table, 1, { ...symbol, st_shndx: 0x10003n }), INTEGER_FIT,
-                table.sh_offset + of_symbol + of_index],
-            [() => writer.put_reloc(rela, 1, wide), INTEGER_FIT, rela.sh_offset + of_rela + of_info],
-            [() => writer.put_section_header(1, { ...section, sh_name: 1n << 32n }), INTEGER_FIT,
-                header.e_shoff + of_section],
-            [() => writer.put_header({ ...header, ei_class: 3 }), INVALID_CLASS, 0n],
-            [() => writer.put_header({ ...header, ei_data: 0 }), DATA, 0n],
+            [() => puts.reloc({ ...reloc, r_addend: undefined }), INTEGER_FIT, in_rela + 2n * of_info],
+            [() => puts.rel({ ...low, r_addend: 0n }), INTEGER_FIT, rel.sh_offset + 2n * of_info],
+            [() => puts.rel({ ...low, r_addend: -3n }), INTEGER_FIT, rel.sh_offset + 2n * of_info],
+            [() => puts.symbol({ ...symbol, st_name: 0x100000003n }, 1), INTEGER_FIT, in_symbol],
+            [() => puts.symbol({ ...symbol, st_shndx: 0x10003n }, 1), INTEGER_FIT, in_symbol + of_index],
+            [() => puts.reloc(wide), INTEGER_FIT, in_rela + of_info],
+            [() => puts.section({ ...section, sh_name: 1n << 32n }), INTEGER_FIT, header.e_shoff + of_section],
+            [() => puts.section({ ...section, sh_name: 1n << 32n }, header.e_shnum), NO_ITEM],
+            [() => puts.symbol({ ...symbol, st_shndx: 0x10003n }, elf.symtab(table).length), NO_ITEM],
+            [() => puts.reloc({ ...reloc, r_addend: undefined }, elf.relocs(rela).length), NO_ITEM],
+            [() => puts.header({ ...header, ei_class: 3 }), INVALID_CLASS, 0n],
+            [() => puts.header({ ...header, ei_data: 0 }), DATA, 0n],
             [() => writer.put_number(3, 1, 256), INTEGER_FIT, 3n],
             [() => writer.put_number_in(text, 3, 1, 256), INTEGER_FIT, text.sh_offset + 3n],
             [() => writer.put_number_in(text, text.sh_size, 1, 0), BAD_OFFSET, text.sh_offset + text.sh_size],
-            [() => writer.put_number(content.length, 1, 0), BAD_OFFSET]]) assert.throws(put, is_refusal(kind, offset));
-        assert.equal(error_of(() => writer.put_reloc(rela, 1, wide)).numbers[0], 1n << 40n);
+            [() => writer.put_number(content.length, 1, 0), BAD_OFFSET],
+            [() => writer.put_number(5, 3, 0), NUMBER_WIDTH, 5n],
+            [() => writer.put_number_in(text, 5, 16, 0), NUMBER_WIDTH, text.sh_offset + 5n],
+        ]) assert.throws(put, is_refusal(kind, offset));
+        assert.equal(error_of(() => puts.reloc(wide)).numbers[0], 1n << 40n);
         for (const r_addend of [0n, -3n]) {
-            const { item, numbers } = error_of(() => writer.put_reloc(rel, 0, { ...low, r_addend }));
+            const { item, numbers } = error_of(() => puts.rel({ ...low, r_addend }));
             assert.deepEqual([item, numbers[0]], [goblin.Item.ADDEND, BigInt.asUintN(64, r_addend)]);
         }
-        const past = [[writer.put_section_header, elf.section_headers().length, { ...section, sh_name: 1n << 32n }],
-            [writer.put_symbol, table, elf.symtab(table).length, { ...symbol, st_shndx: 0x10003n }],
-            [writer.put_reloc, rela, elf.relocs(rela).length, { ...reloc, r_addend: undefined }]];
-        for (const [put, ...args] of past) assert.equal(put.apply(writer, args), false);
         // (nor is a number cut that fits no field)
-        for (const [put, item, name, ...wrong] of [
-            [(changed) => writer.put_header(changed), header, 'e_phnum', 70000, -1, 1.5, NaN],
-            [(changed) => writer.put_section_header(1, changed), section, 'sh_type', 2 ** 32 + 1, -1],
-            [(changed) => writer.put_section_header(1, changed), section, 'sh_size', -1n, 1n << 64n],
-            [(changed) => writer.put_symbol(table, 0, changed), symbol, 'st_info', 256],
-            [(changed) => writer.put_symbol(table, 0, changed), symbol, 'st_shndx', -1n, 1n << 64n],
-            [(changed) => writer.put_reloc(rela, 1, changed), reloc, 'r_addend', 1n << 63n],
-        ]) for (const number of wrong) assert.throws(() => put({ ...item, [name]: number }), RangeError);
-        assert.throws(() => elf.strtab({ ...text, sh_type: 3, sh_offset: 1n << 64n }).get(0), RangeError);
-        for (const wrong of [undefined, content.buffer, [...content], new DataView(content.buffer)])
-            assert.throws(() => elf.writer(wrong), TypeError);
+        for (const [name, item, field, ...wrong] of [['header', header, 'e_phnum', 70000, -1, 1.5, NaN],
+            ['section', section, 'sh_type', 2 ** 32 + 1, -1], ['section', section, 'sh_size', -1n, 1n << 64n],
+            ['symbol', symbol, 'st_info', 256], ['symbol', symbol, 'st_shndx', -1n, 1n << 64n],
+            ['reloc', reloc, 'r_addend', 1n << 63n]])
+            throw_all(RangeError, wrong.map((number) => () => puts[name]({ ...item, [field]: number })));
+        throw_all(RangeError, () => elf.strtab({ ...text, sh_type: 3, sh_offset: 1n << 64n }).get(0));
+        throw_all(TypeError, [undefined, content.buffer, [...content], new DataView(content.buffer)]
+            .map((wrong) => () => elf.writer(wrong)));
         assert.doesNotThrow(() => elf.writer(runInNewContext('new Uint8Array(64)')));
         assert.deepEqual(bytes, new Uint8Array(content));
         // (a number in a section is written where it is read)
         writer.put_number_in(text, 2, 2, 0x1234);
         const changed = bytes.filter((byte, at) => byte !== content[at]).length;
         assert.deepEqual([Elf.parse(bytes).number_in(text, 2, 2), changed < 3], [0x1234n, true]);
-    }
-    assert.ok(written > 50, `${written} records`);
+        return written;
+    });
     return `${written} records that are written`;
 });
 
 check('A section past the end is refused, with each list that includes it, and others are not', () => {
     const calls = { 2: ['symtab', 'syms'], 11: ['symtab', 'dynsyms'], 4: ['relocs', 'shdr_relocs'],
         9: ['relocs', 'shdr_relocs'], 7: ['notes', 'iter_note_sections'] };
-    let moved = 0;
-    for (const content of files) {
-        const whole = Elf.parse(content),
-            lists = [...whole.section_headers().entries()].filter(([, { sh_type }]) => calls[sh_type]);
+    const moved = sum_over(files, 10, (whole, content) => {
+        const lists = [...whole.section_headers().entries()].filter(([, { sh_type }]) => calls[sh_type]);
         for (const [index, section] of lists) {
-            const copy = new Uint8Array(content);
+            const copy = new Uint8Array(content), [of_one, of_all] = calls[section.sh_type];
             whole.writer(copy).put_section_header(index, { ...section, sh_offset: BigInt(content.length - 1) });
-            const elf = Elf.parse(copy), [of_one, of_all] = calls[section.sh_type];
-            assert.throws(() => elf[of_one](elf.section_header(index)), is_refusal());
-            assert.throws(() => elf[of_all](), is_refusal());
+            const elf = Elf.parse(copy);
+            throw_all(is_refusal(), () => elf[of_one](elf.section_header(index)), () => elf[of_all]());
             for (const [at, other] of lists) assert.ok(at === index || elf[calls[other.sh_type][0]](other).length > 0);
-            moved++;
         }
-    }
-    assert.ok(moved >= 10, `${moved} sections`);
+        return lists.length;
+    });
     return `${moved} sections that pass the end`;
 });
 
-check('A section links to the one at sh_link, unless that is 0, past the end or without bytes', () => {
-    let linked = 0;
-    for (const content of files) {
-        const elf = Elf.parse(content), sections = [...elf.section_headers()];
-        for (const section of sections) {
-            const found = elf.linked_section(section), wanted = section.sh_link ? sections[section.sh_link] : undefined;
-            assert.deepEqual(found, wanted?.sh_type === goblin.SHT_NOBITS ? undefined : wanted);
-            if (found) linked++;
-        }
-        const without_bytes = sections.findIndex(({ sh_type }) => sh_type === goblin.SHT_NOBITS);
-        for (const sh_link of [0, sections.length, Math.max(without_bytes, 0)])
-            assert.equal(elf.linked_section({ ...sections[0], sh_link }), undefined);
-        assert.equal(elf.strtab(elf.linked_section(sections[0])).get(0), undefined);
-    }
-    assert.ok(linked > files.length, `${linked} sections`);
-    return `${linked} linked sections`;
-});
-
 check('Sections of other types hold no symbols or relocations', () => {
-    let found = 0;
-    for (const content of files) {
-        const elf = Elf.parse(content);
-        for (const section of elf.section_headers()) {
+    const found = sum_over(files, 1, (elf) => {
+        const sections = elf.section_headers();
+        for (const section of sections) {
             const { sh_type } = section,
                 of = `A section of type 0x${sh_type.toString(16)} (${goblin.sht_to_str(sh_type)}) holds no `;
-            const wrong = (expected) => ({ kind, numbers, message }) => kind === Kind.SECTION_TYPE
-                && numbers[0] === BigInt(sh_type) && message === of + expected;
-            if (![2, 11].includes(sh_type)) assert.throws(() => elf.symtab(section), wrong('symbols'));
-            if (![4, 9].includes(sh_type)) assert.throws(() => elf.relocs(section), wrong('relocations'));
-            found++;
+            for (const [call, types, expected] of [['symtab', [2, 11], 'symbols'], ['relocs', [4, 9], 'relocations']])
+                if (!types.includes(sh_type)) throw_all(({ kind, numbers, message }) => kind === Kind.SECTION_TYPE
+                    && numbers[0] === BigInt(sh_type) && message === of + expected, () => elf[call](section));
         }
-    }
+        return sections.length;
+    });
     return `${found} sections by their types`;
 });
 
@@ -489,14 +455,14 @@ check('Notes are those of a section and a segment, up to one that is refused', (
         const notes = elf.notes(holder);
         assert.deepEqual([texts_of(notes), texts_of(elf[of_all]())], [NOTES, NOTES]);
         assert.deepEqual(notes.map((item) => goblin.note_type_to_str(item)), ['NT_GNU_BUILD_ID', 'NT_UNKNOWN']);
-        assert.deepEqual(elf.readable_notes(holder), { notes, refusal: undefined });
-        assert.deepEqual(elf.readable_notes(holder, 1), { notes: notes.slice(0, 1), refusal: undefined });
+        assert.deepEqual([elf.readable_notes(holder), elf.readable_notes(holder, 1)],
+            [{ notes, refusal: undefined }, { notes: notes.slice(0, 1), refusal: undefined }]);
         notes.forEach(({ name_range }, before) => {
-            const copy = Buffer.from(noted);
-            copy[Number(name_range.offset)] = 0xff; // (which is not UTF-8)
-            const damaged = Elf.parse(copy), found = damaged.readable_notes(holder);
+            // (0xff is not UTF-8)
+            const damaged = Elf.parse(patched(noted, [Number(name_range.offset), 0xff, 1])),
+                found = damaged.readable_notes(holder);
             assert.deepEqual([texts_of(found.notes), found.refusal.kind], [NOTES.slice(0, before), Kind.BAD_INPUT]);
-            assert.throws(() => damaged.notes(holder), is_refusal(Kind.BAD_INPUT));
+            throw_all(is_refusal(Kind.BAD_INPUT), () => damaged.notes(holder));
             assert.equal(damaged[of_all]()[before].name, undefined);
         });
     }
@@ -509,9 +475,8 @@ check('Notes as bytes have whole names, need not be UTF-8, and must be inside th
         start = Number(section.sh_offset);
     const wanted = NOTES.map(([name, n_type, desc]) => [`${name}\0`, n_type, desc]);
     assert.deepEqual([texts_of(elf.notes_bytes(section)), texts_of(elf.notes_bytes(segment))], [wanted, wanted]);
-    const copy = Buffer.from(noted);
-    copy[start + 32] = 0xff; // (which is not UTF-8)
-    assert.deepEqual(Elf.parse(copy).notes_bytes(section).map(({ name }) => name[0]), [0x47, 0xff]);
+    const not_utf8 = Elf.parse(patched(noted, [start + 32, 0xff, 1])).notes_bytes(section);
+    assert.deepEqual(not_utf8.map(({ name }) => name[0]), [0x47, 0xff]);
     // the range ends in the first note's header, name and descriptor, and then in those of the second
     const { NOTE_HEADER, NOTE_NAME, NOTE_DESC } = goblin.Item;
     for (const [size, before, item] of [[11, 0, NOTE_HEADER], [15, 0, NOTE_NAME], [19, 0, NOTE_DESC],
@@ -521,7 +486,7 @@ check('Notes as bytes have whole names, need not be UTF-8, and must be inside th
             { ...segment, p_offset: BigInt(start), p_filesz: BigInt(size) }]) {
             const { notes, refusal } = elf.readable_notes_bytes(cut);
             assert.deepEqual([texts_of(notes), refused(refusal)], [wanted.slice(0, before), true]);
-            assert.throws(() => elf.notes_bytes(cut), refused);
+            throw_all(refused, () => elf.notes_bytes(cut));
         }
     }
     assert.equal(elf.readable_notes_bytes(section, 1).notes.length, 1);
@@ -533,8 +498,8 @@ check('Notes as bytes have whole names, need not be UTF-8, and must be inside th
         assert.deepEqual([String.fromCharCode(...found.name_bytes), found.name_range.size],
             [name, BigInt(name.length)]);
     }
-    assert.throws(() => elf.notes_bytes({ ...section, sh_addralign: 16n }),
-        ({ kind, item }) => kind === Kind.NOTE_ALIGN && item === 0);
+    throw_all(({ kind, item }) => kind === Kind.NOTE_ALIGN && item === 0,
+        () => elf.notes_bytes({ ...section, sh_addralign: 16n }));
 });
 
 check('All notes have names of any bytes, and a build ID may be in a section alone', () => {
@@ -547,24 +512,22 @@ check('All notes have names of any bytes, and a build ID may be in a section alo
     const words = (notes) => notes.map((item) => [item.name, Buffer.from(item.name_bytes).toString('latin1'),
         item.n_type, Buffer.from(item.desc).toString(), goblin.note_type_to_str(item)]);
     const of_go = ['Go', 'Go\0\0', 4, 'of Go', 'NT_GNU_GOLD_VERSION'];
-    assert.deepEqual(words(elf.iter_note_headers()), [of_go]);
-    assert.deepEqual(words(elf.iter_note_sections()), [
+    assert.deepEqual([words(elf.iter_note_headers()), words(elf.iter_note_sections())], [[of_go], [
         [undefined, 'GA*FORTIFY\0\xff\0', 0x100, 'at', 'NT_UNKNOWN'],
-        [undefined, '\xff\0', 3, '', 'NT_GNU_BUILD_ID'], of_go, ['GNU', 'GNU\0', 3, 'of ld', 'NT_GNU_BUILD_ID']]);
-    const build_id = (of) => Buffer.from(of.build_id() ?? []).toString();
-    assert.deepEqual([elf, Elf.parse(noted), Elf.parse(elf_file({ sections: sections.slice(0, 2) }))].map(build_id),
+        [undefined, '\xff\0', 3, '', 'NT_GNU_BUILD_ID'], of_go, ['GNU', 'GNU\0', 3, 'of ld', 'NT_GNU_BUILD_ID']]]);
+    const build_id = (of) => Buffer.from(Elf.parse(of).build_id() ?? []).toString();
+    assert.deepEqual([content, noted, elf_file({ sections: sections.slice(0, 2) })].map(build_id),
         ['of ld', 'abcd', '']);
     // (a name or descriptor past the end of its section is damage, whatever the name)
     const { sh_offset } = elf.section('.gnu.build.attributes'), size_at = Number(sh_offset) + any[0].length;
     for (const [at, kind] of [[size_at, Kind.TOO_BIG], [size_at + 4, Kind.BAD_OFFSET]]) {
         const damaged = Elf.parse(patched(content, [at, 64, 4]));
-        for (const read of [() => damaged.iter_note_sections(), () => damaged.build_id()])
-            assert.throws(read, is_refusal(kind, BigInt(size_at)));
+        throw_all(is_refusal(kind, BigInt(size_at)), () => damaged.iter_note_sections(), () => damaged.build_id());
     }
     // the ID is known up to 65,536 notes, of which its segment is one, and past them it is not looked for
-    const before = note('ABC', 1, Buffer.alloc(0)), many = (count) =>
-        Elf.parse(noted_file([...Array.from({ length: count }, () => before), id]));
-    assert.deepEqual([65534, 65535].map((count) => build_id(many(count))), ['of ld', '']);
+    const before = note('ABC', 1, Buffer.alloc(0));
+    assert.deepEqual([65534, 65535].map((count) => build_id(noted_file([...times(count, () => before), id]))),
+        ['of ld', '']);
 });
 
 check('Node.js prints the items of a list, as those of an array, and the fields of notes', () => {
@@ -575,11 +538,8 @@ check('Node.js prints the items of a list, as those of an array, and the fields 
     for (const [name, list] of [['List', Elf.parse(own).section_headers()], ['Symtab', Elf.parse(own).syms()]]) {
         const of_array = inspect([...list]);
         assert.ok(list.length > 10 && of_array.includes(' more items') === list.length > 100);
-        assert.equal(inspect(list), `${name}(${list.length}) ${of_array}`);
-        for (const most of [0, 3, null]) {
-            assert.equal(inspect(list, { maxArrayLength: most }),
-                `${name}(${list.length}) ${inspect([...list], { maxArrayLength: most })}`);
-        }
+        for (const options of [{}, ...[0, 3, null].map((maxArrayLength) => ({ maxArrayLength }))])
+            assert.equal(inspect(list, options), `${name}(${list.length}) ${inspect([...list], options)}`);
         assert.equal(inspect({ of: [[list]] }), `{ of: [ [ [${name}] ] ] }`);
         assert.match(inspect(Object.create(list)), new RegExp(`^${name} {}`));
     }
@@ -587,22 +547,20 @@ check('Node.js prints the items of a list, as those of an array, and the fields 
 });
 
 // Returns an item as JSON has it, by the type of each of its fields.
-const as_json = (item) =>
-    Object.fromEntries(Object.entries(item).filter(([, value]) => value !== undefined).map(([name, value]) => {
-    if (typeof value === 'bigint') return [name, value.toString()];
-    if (value instanceof Uint8Array) return [name, Buffer.from(value).toString('hex')];
-    return [name, typeof value === 'object' ? as_json(value) : value];
-}));
+const as_json = (item) => Object.fromEntries(Object.entries(item).filter(([, value]) => value !== undefined)
+    .map(([name, value]) => [name, typeof value === 'bigint' ? value.toString()
+        : value instanceof Uint8Array ? Buffer.from(value).toString('hex')
+            : typeof value === 'object' ? as_json(value) : value]));
 
 // Returns one item of each type, by the name of its type.
 function some_items() {
-    const elf = Elf.parse(own), sections = elf.section_headers(), [[, relocs]] = elf.shdr_relocs();
+    const elf = Elf.parse(own), sections = elf.section_headers(), [[, relocs]] = elf.shdr_relocs(),
+        of_notes = Elf.parse(noted), holder = of_notes.program_header(0);
     return {
         Header: elf.header, SectionHeader: sections.at(1), ProgramHeader: elf.program_headers().at(0),
-        Sym: elf.syms().at(-1), Reloc: relocs.at(0), AnyNote: Elf.parse(noted).iter_note_headers()[0],
-        Note: Elf.parse(noted).notes(Elf.parse(noted).program_header(0))[0],
-        NoteBytes: Elf.parse(noted).notes_bytes(Elf.parse(noted).program_header(0))[0],
-        Range: elf.range(sections.at(1)), Dyn: elf.dynamic()[0],
+        Sym: elf.syms().at(-1), Reloc: relocs.at(0), AnyNote: of_notes.iter_note_headers()[0],
+        Note: of_notes.notes(holder)[0], NoteBytes: of_notes.notes_bytes(holder)[0],
+        Range: elf.range(sections.at(1)), Dyn: elf.dynamic_section()[0],
     };
 }
 
@@ -610,18 +568,14 @@ check('Items are plain objects, and JSON has all their numbers', () => {
     const items = Object.values(some_items());
     for (const item of items) {
         assert.equal(Object.getPrototypeOf(item), Object.prototype);
-        assert.deepEqual(item, Object.fromEntries(Object.entries(item)));
-        assert.deepEqual(JSON.parse(JSON.stringify(item)), as_json(item));
-        assert.deepEqual(JSON.parse(JSON.stringify({ more: 1n, ...item }, goblin.json)),
-            { more: '1', ...as_json(item) });
-        assert.deepEqual(structuredClone(item), item);
+        assert.deepEqual([item, structuredClone(item)], [Object.fromEntries(Object.entries(item)), item]);
+        const texts = [JSON.stringify(item), JSON.stringify({ more: 1n, ...item }, goblin.json)];
+        assert.deepEqual(texts.map((text) => JSON.parse(text)), [as_json(item), { more: '1', ...as_json(item) }]);
     }
     // a field of 64 bits is exact for every value
-    const elf = Elf.parse(own), copy = Buffer.from(own), at = Number(elf.header.e_shoff) + 64 + 16;
-    copy.fill(0xff, at, at + 8);
-    const section = Elf.parse(copy).section_header(1);
-    assert.equal(section.sh_addr, (1n << 64n) - 1n);
-    assert.equal(BigInt(JSON.parse(JSON.stringify(section)).sh_addr), section.sh_addr);
+    const elf = Elf.parse(own), at = Number(elf.header.e_shoff) + 64 + 16;
+    const section = Elf.parse(patched(own, [at, END])).section_header(1);
+    assert.deepEqual([section.sh_addr, BigInt(JSON.parse(JSON.stringify(section)).sh_addr)], [END, END]);
     assert.equal(JSON.parse(JSON.stringify(elf.section_header(0))).sh_addr, '0');
     const refused = error_of(() => Elf.parse(own.subarray(0, 20)));
     const { name, message, kind, numbers } = JSON.parse(JSON.stringify(refused));
@@ -631,265 +585,243 @@ check('Items are plain objects, and JSON has all their numbers', () => {
 });
 
 check('Arguments of other types and ranges are refused', () => {
-    const elf = Elf.parse(own);
-    const text = elf.section('.text'), segment = elf.program_header(0), bytes = new Uint8Array(own),
-        writer = elf.writer(bytes);
+    const elf = Elf.parse(own), text = elf.section('.text'), segment = elf.program_header(0), symbols = elf.syms(),
+        strtab = elf.shdr_strtab(), bytes = new Uint8Array(own), writer = elf.writer(bytes);
     for (const width of [0, 3, 5, 7, 9, 16, -1, 1.5, 4n, 8n, '4', '8', undefined, null, NaN, Symbol('8')]) {
-        for (const call of [() => elf.number(0, width), () => elf.number(own.length, width),
-            () => elf.number_in(text, 0, width), () => elf.number_in(segment, 0, width),
-            () => writer.put_number(0, width, 0), () => writer.put_number_in(text, 0, width, 0)])
-            assert.throws(call, RangeError);
+        throw_all(RangeError, () => elf.number(0, width), () => elf.number(own.length, width),
+            () => elf.number_in(text, 0, width), () => elf.number_in(segment, 0, width));
+        const is_whole = Number.isInteger(width) && width >= 0, refused = ({ kind, numbers, message }) =>
+            kind === Kind.NUMBER_WIDTH && numbers[0] === BigInt(width)
+            && message === `A number has 1, 2, 4 or 8 bytes, and not ${width}`;
+        throw_all(is_whole ? refused : RangeError, () => writer.put_number(0, width, 0),
+            () => writer.put_number_in(text, 0, width, 0));
     }
     assert.deepEqual(bytes, new Uint8Array(own));
     for (const [width, word] of [[4n, 'bigint'], ['4', 'string'], [3, '3']])
-        assert.throws(() => elf.number(0, width), new RegExp(` the Number 1, 2, 4 or 8, not ${word}$`));
+        throw_all(new RegExp(` the Number 1, 2, 4 or 8, not ${word}$`), () => elf.number(0, width));
     // (at most two and a half items are at most two)
     const [of_notes] = Elf.parse(noted).program_headers();
     for (const [most, count] of [[0.5, 0], [1.5, 1], [2.5, 2]]) {
-        const all = [elf.syms().from(1, most), elf.dynamic(most), elf.shdr_strtab().get_start(1, most),
+        const all = [symbols.from(1, most), elf.dynamic_section(most), strtab.get_start(1, most),
             Elf.parse(noted).readable_notes(of_notes, most).notes];
         assert.deepEqual(all.map((found) => [...found].length), [count, count, count, count]);
     }
     // (as of a section that is not there, or of its index)
-    const part = 'a section header or a program header';
+    const expected = (what, word) => new TypeError(`${what} is expected, not ${word}`);
     for (const [wrong, word] of [[undefined, 'undefined'], [null, 'null'], [5, 'number'], [5n, 'bigint'],
         ['.text', 'string'], [NaN, 'number'], [{}, 'Object'], [elf.section_headers(), 'List']]) {
-        for (const [what, ...calls] of [
-            ['a section header', () => elf.symtab(wrong), () => elf.relocs(wrong), () => elf.section_name(wrong),
-                () => elf.linked_section(wrong), () => writer.put_symbol(wrong, 0, {}),
-                () => writer.put_reloc(wrong, 0, {}), () => goblin.segment_holds(segment, wrong)],
-            [part, () => elf.range(wrong), () => elf.section_data(wrong), () => elf.segment_data(wrong),
-                () => elf.readable_data(wrong), () => elf.notes(wrong), () => elf.notes_bytes(wrong),
-                () => elf.number_in(wrong, 0, 1), () => writer.put_number_in(wrong, 0, 1, 0)],
-            ['a program header', () => elf.segment_sections(wrong)],
-            ['a symbol', () => elf.syms().name(wrong), () => elf.syms().name_bytes(wrong)]])
-            for (const call of calls) assert.throws(call, new TypeError(`${what} is expected, not ${word}`));
+        throw_all(expected('a section header', word), ...['symtab', 'relocs', 'section_name', 'linked_section']
+            .map((call) => () => elf[call](wrong)), () => writer.put_symbol(wrong, 0, {}),
+        () => writer.put_reloc(wrong, 0, {}), () => goblin.segment_holds(segment, wrong));
+        throw_all(expected('a section header or a program header', word), ...['range', 'section_data', 'segment_data',
+            'readable_data', 'notes', 'notes_bytes'].map((call) => () => elf[call](wrong)),
+        () => elf.number_in(wrong, 0, 1), () => writer.put_number_in(wrong, 0, 1, 0));
+        throw_all(expected('a program header', word), () => elf.segment_sections(wrong));
+        throw_all(expected('a symbol', word), () => symbols.name(wrong), () => symbols.name_bytes(wrong));
     }
-    const [[rela]] = elf.shdr_relocs(), symtab = elf.section_by_type(goblin.SHT_SYMTAB).section;
+    const [rela, symtab] = [goblin.SHT_RELA, goblin.SHT_SYMTAB].map((type) => elf.section_by_type(type).section);
     for (const [put, what] of [[(item) => writer.put_header(item), 'a header'],
         [(item) => writer.put_section_header(1, item), 'a section header'],
         [(item) => writer.put_program_header(0, item), 'a program header'],
         [(item) => writer.put_symbol(symtab, 0, item), 'a symbol'],
-        [(item) => writer.put_reloc(rela, 0, item), 'a relocation']]) {
+        [(item) => writer.put_reloc(rela, 0, item), 'a relocation']])
         for (const [wrong, word] of [[undefined, 'undefined'], [null, 'null'], [5, 'number'], ['.text', 'string']])
-            assert.throws(() => put(wrong), new TypeError(`${what} is expected, not ${word}`));
-    }
+            throw_all(expected(what, word), () => put(wrong));
     for (const none of [undefined, null]) assert.equal(elf.strtab(none).get(0), undefined);
     for (const [put, what] of [[() => writer.put_section_header(1, { ...text, sh_size: 5 }), 'a bigint as sh_size'],
         [() => writer.put_section_header(1, { ...text, sh_link: 5n }), 'a number as sh_link'],
         [() => elf.range({ ...text, sh_addr: undefined }), 'a bigint as sh_addr'],
         [() => elf.number_in({ ...text, sh_size: '5' }, 0, 1), 'a bigint as size']])
-        assert.throws(put, { name: 'TypeError', message: new RegExp(`^${what} is expected, not `) });
-    const searches = [(name) => elf.section(name), (name) => elf.section_by_name(name),
-        (name) => elf.syms().by_name(name), (name) => elf.syms().symbol_by_name(name)];
-    const type_of = (name) => goblin.note_type_to_str({ name, n_type: 3 });
-    for (const [call, ...wrong] of [...[...searches, type_of].map((call) => [call, undefined, null, 5, ['.text']]),
-        [type_of, Buffer.from('GNU')]]) {
-        for (const name of wrong)
-            assert.throws(() => call(name), { name: 'TypeError', message: /^a text is expected, not / });
-    }
-    assert.throws(() => elf.section_by_type(1n << 32n), RangeError);
-    assert.throws(() => goblin.machine_to_str(0x10000), RangeError);
+        throw_all(type_error(`${what} is expected, not`), put);
+    const no_text = type_error('a text is expected, not'),
+        type_of = (name) => goblin.note_type_to_str({ name, n_type: 3 });
+    for (const call of [(name) => elf.section(name), (name) => elf.section_by_name(name),
+        (name) => symbols.symbol_by_name(name), type_of])
+        throw_all(no_text, [undefined, null, 5, ['.text']].map((name) => () => call(name)));
+    throw_all(no_text, () => type_of(Buffer.from('GNU')));
+    throw_all(RangeError, () => elf.section_by_type(1n << 32n), () => goblin.machine_to_str(0x10000));
     assert.equal(elf.number(1, 1), 0x45n);
-    assert.throws(() => elf.number(own.length, 1), is_refusal(Kind.BAD_OFFSET));
-    const gets = [(at) => elf.section_header(at), (at) => elf.section_headers().get(at),
-        (at) => elf.program_headers().get(at)];
-    for (const get of gets) {
-        for (const wrong of [-1, 1.5, NaN, 1n << 64n]) assert.throws(() => get(wrong), RangeError);
-        for (const wrong of [undefined, null, '1', '', true, {}]) assert.throws(() => get(wrong), TypeError);
+    throw_all(is_refusal(Kind.BAD_OFFSET), () => elf.number(own.length, 1));
+    for (const get of [(at) => elf.section_header(at), (at) => elf.section_headers().get(at),
+        (at) => elf.program_headers().get(at)]) {
+        throw_all(RangeError, [-1, 1.5, NaN, 1n << 64n].map((wrong) => () => get(wrong)));
+        throw_all(TypeError, [undefined, null, '1', '', true, {}].map((wrong) => () => get(wrong)));
     }
-    assert.equal(goblin.shf_to_str(goblin.SHF_ALLOC), 'SHF_ALLOC');
-    assert.equal(goblin.shf_to_str(goblin.SHF_ALLOC | 1n << 32n), 'SHF_UNKNOWN');
+    assert.deepEqual([goblin.SHF_ALLOC, goblin.SHF_ALLOC | 1n << 32n].map(goblin.shf_to_str),
+        ['SHF_ALLOC', 'SHF_UNKNOWN']);
     assert.deepEqual(text, elf.section_header(elf.section_by_name('.text').index));
-    assert.equal(elf.section_name(text), '.text');
-    assert.equal(elf.section('.none'), undefined);
-    const symbols = elf.syms(), main = symbols.by_name('main'), { st_value } = symbols.get(main);
-    assert.equal(symbols.name(symbols.get(symbols.by_address(st_value))), 'main');
+    assert.deepEqual([elf.section_name(text), elf.section('.none')], ['.text', undefined]);
+    const { st_value } = symbols.symbol_by_name('main').symbol;
+    assert.equal(symbols.name(symbols.symbol_by_address(st_value).symbol), 'main');
 });
 
-const END = (1n << 64n) - 1n;
-
-check('Readable data ends with the file', () => {
-    const elf = Elf.parse(own), length = BigInt(own.length), text = elf.section('.text'), code = elf.program_header(0);
-    for (const section of elf.section_headers())
-        assert.deepEqual(elf.readable_data(section), elf.section_data(section));
-    for (const segment of elf.program_headers())
-        assert.deepEqual(elf.readable_data(segment), elf.segment_data(segment));
-    for (const [offset, size, left] of [[length - 3n, 4n, 3], [length, 1n, 0], [length + 1n, 5n, 0], [END, 1n, 0]]) {
-        const section = { ...text, sh_offset: offset, sh_size: size },
-            segment = { ...code, p_offset: offset, p_filesz: size };
-        const wanted = new Uint8Array(own.subarray(own.length - left));
-        assert.throws(() => elf.section_data(section), is_refusal());
-        assert.deepEqual([elf.readable_data(section), elf.readable_data(segment)], [wanted, wanted]);
-        assert.equal(elf.readable_data({ ...section, sh_type: goblin.SHT_NOBITS }), undefined);
-        assert.equal(elf.readable_data({ ...segment, p_filesz: 0n }), undefined);
+// (The rules of these lines are those of checks/files/goblin.py.)
+check('Fields and calls with goblin\'s names return what goblin returns of stored files', () => {
+    const READ = {
+        class: (elf) => (elf.is_64() ? 64 : 32), order: (elf) => (elf.little_endian() ? 'little' : 'big'),
+        object: (elf) => Number(elf.header.e_type === goblin.ET_REL), entry: (elf) => elf.entry().toString(16),
+        segments: (elf) => elf.program_headers().length, sections: (elf) => elf.section_headers().length,
+        syms: (elf) => elf.syms()?.length ?? '-', dynsyms: (elf) => elf.dynsyms()?.length ?? '-',
+        shdr: (elf) => elf.shdr_relocs().map(([index, { length }]) => `${index}:${length}`),
+        lib: (elf) => Number(elf.is_lib()), interpreter: (elf) => elf.interpreter(), soname: (elf) => elf.soname(),
+        libraries: (elf) => elf.libraries(), rpaths: (elf) => elf.rpaths(), runpaths: (elf) => elf.runpaths(),
+    };
+    const lines = readFileSync(new URL('checks/files/goblin', stored), 'utf8').trim().split('\n');
+    const shown = (found) => (found instanceof GoblinError ? '!' : `${found ?? ''}`);
+    for (const [path, ...fields] of lines.map((line) => line.split(' '))) {
+        const elf = Elf.parse(readFileSync(new URL(`checks/files/${path}`, stored)));
+        for (const [, name, wanted] of fields.map((field) => /^(\w+)=(.*)$/.exec(field)))
+            if (READ[name]) assert.equal(shown(error_of(() => READ[name](elf))), wanted, `${path}: ${name}`);
     }
+    assert.ok(lines.length > 40);
+    return `${lines.length} stored files as goblin reads them`;
 });
 
-check('Numbers in a section or a segment are inside it', () => {
-    const elf = Elf.parse(own), text = elf.section('.text'),
-        code = elf.program_headers().find(({ p_offset }) => p_offset > 0n);
-    const little = (at, size) => BigInt(own.readUIntLE(Number(at), size));
-    assert.throws(() => elf.number_in({ ...text, sh_type: goblin.SHT_NOBITS }, 0, 1), is_refusal(Kind.BAD_OFFSET));
-    for (const [holder, start, size] of [[text, text.sh_offset, text.sh_size], [code, code.p_offset, code.p_filesz]]) {
-        assert.deepEqual([elf.number_in(holder, 3, 4), elf.number_in(holder, 2, 2)],
-            [little(start + 3n, 4), little(start + 2n, 2)]);
-        assert.throws(() => elf.number_in(holder, size, 1), is_refusal(Kind.BAD_OFFSET));
-        assert.throws(() => elf.number_in(holder, size - 3n, 4), is_refusal(Kind.TOO_BIG));
-    }
-});
-
-check('Addresses have offsets in the file', () => {
-    const elf = Elf.parse(own), text = elf.section('.text');
-    for (const { p_offset, p_vaddr, p_filesz } of elf.program_headers()
-        .filter(({ p_type }) => p_type === goblin.PT_LOAD)) {
-        for (const before of [0n, p_filesz - 1n])
-            assert.equal(elf.address_to_offset(p_vaddr + before), p_offset + before);
-    }
-    assert.equal(elf.address_to_offset(elf.header.e_entry), elf.header.e_entry - text.sh_addr + text.sh_offset);
-    assert.equal(elf.address_to_offset(END), undefined);
-    assert.throws(() => Elf.parse(own.subarray(0, 64)).address_to_offset(0), is_refusal(Kind.BUFFER_TOO_SHORT));
-});
-
-// The type of the file is at offset 16, and the address of its entry at 24. (These files are little endian.)
-check('The entry and whether a file is a library are those of its header', () => {
-    assert.equal(Elf.parse(own).entry(), own.readBigUInt64LE(24));
-    for (const [type, is_lib] of [[1, false], [2, false], [3, true], [4, false], [0x300, false]]) {
-        const copy = Buffer.from(own);
-        copy.writeUInt16LE(type, 16);
-        copy.writeBigUInt64LE(END, 24);
-        const elf = Elf.parse(copy), { header } = elf;
+check('A library is no position-independent program, and a header can\'t be changed', () => {
+    const { DF_1_PIE, DT_FLAGS_1, DT_SYMTAB } = goblin, with_entries = (type, ...entries) =>
+        Elf.parse(patched(dynamic_file(Buffer.alloc(8), entries, { type }), [24, END])); // (the address of its entry)
+    for (const [is_lib, type, ...values] of [[false, 1], [false, 2], [true, 3], [false, 4], [false, 0x300],
+        [true, 3, 1n], [false, 3, DF_1_PIE], [true, 3, DF_1_PIE, 1n], [false, 2, 1n]]) {
+        const elf = with_entries(type, ...values.map((value) => [DT_FLAGS_1, value])), { header } = elf;
         assert.deepEqual([elf.is_lib(), elf.entry()], [is_lib, END]);
         // (the lists would still be those of the file's header)
-        for (const change of [() => { elf.header = { ...header, e_type: 0 }; }, () => { header.e_type = 0; }])
-            assert.throws(change, TypeError);
+        throw_all(TypeError, () => { elf.header = { ...header, e_type: 0 }; }, () => { header.e_type = 0; });
         assert.deepEqual([elf.header, elf.is_lib()], [header, is_lib]);
     }
+    throw_all(is_refusal(Kind.BUFFER_TOO_SHORT), () => Elf.parse(own.subarray(0, 64)).is_lib());
+    throw_all(({ kind, numbers, message }) => kind === Kind.NOT_COUNTED && numbers[0] === 0x1234n
+        && message === 'No section has the number of symbols at 0x1234',
+    () => with_entries(3, [DT_SYMTAB, 0x1234]).dynsyms());
+});
+
+check('Names of the dynamic section are texts, also those that end as another one does', () => {
+    const { DT_NEEDED, DT_RPATH, DT_RUNPATH, DT_SONAME, DT_STRSZ, DT_STRTAB } = goblin,
+        text = Buffer.from('\0liba\0léb\0');
+    const read = (text, ...entries) =>
+        Elf.parse(dynamic_file(text, [[DT_STRTAB, 0x400000], [DT_STRSZ, text.length], ...entries]));
+    const elf = read(text, [DT_NEEDED, 6], [DT_RUNPATH, 9], [DT_NEEDED, 1], [DT_SONAME, 2], [DT_NEEDED, 3],
+        [DT_NEEDED, 1], [DT_NEEDED, 9], [DT_RPATH, 6], [DT_SONAME, 1]);
+    assert.deepEqual([elf.libraries(), elf.rpaths(), elf.runpaths(), elf.soname(), elf.interpreter()],
+        [['léb', 'liba', 'ba', 'liba', 'b'], ['léb'], ['b'], 'liba', undefined]);
+    // (5 is a name's zero byte, 8 is within a character, and 11 is past the end)
+    assert.deepEqual([read(text, [DT_NEEDED, 5]).libraries(), read(text, [DT_SONAME, 0]).soname()], [[''], undefined]);
+    throw_all(is_refusal(Kind.BAD_INPUT), () => read(text, [DT_NEEDED, 6], [DT_NEEDED, 8]).libraries());
+    throw_all(({ kind, numbers, message }) => kind === Kind.NO_STRING && `${numbers}` === `${DT_NEEDED},11,0,0`
+        && message === 'The value 0xb of tag 0x1 has no string', () => read(text, [DT_NEEDED, 11]).libraries());
+    // (a hostile file has very many names that end as one of a megabyte does: here of some gigabytes in all)
+    const long = Buffer.concat([Buffer.alloc((1 << 20) - 2, 'é'), Buffer.alloc(2)]),
+        hostile = read(long, ...times(9999, (i) => [DT_NEEDED, 2 * i]));
+    assert.ok(hostile.libraries().every((name, i) => name.length === (1 << 19) - 1 - i));
 });
 
 check('Sections and symbols are found by names, from an index on', () => {
-    const content = elf_file({ sections: ['a', 'b', 'a', 'a']
-        .map((name, index) => ({ name, type: 1, bytes: Buffer.from([index]) })) });
+    const content = elf_file({ sections: ['a', 'b', 'a', 'a'].map((name, index) => data(name, Buffer.from([index]))) });
     const elf = Elf.parse(content), found = (name, first) => elf.section_by_name(name, first)?.index;
     assert.deepEqual([0, 1, 2, 3, 4, 5, 99].map((first) => found('a', first)), [1, 1, 3, 3, 4, undefined, undefined]);
-    assert.deepEqual([found('a'), found('b'), found('c')], [1, 2, undefined]);
+    assert.deepEqual([found('a'), found('b'), found('c'), found(''), elf.section('')], [1, 2, undefined, 0, undefined]);
     for (const index of [1, 3, 4])
         assert.deepEqual(elf.section_by_name('a', index), { index, section: elf.section_header(index) });
     assert.deepEqual(elf.section_by_type(1, 2), { index: 2, section: elf.section_header(2) });
     assert.deepEqual([elf.section_by_type(3)?.index, elf.section_by_type(3, 6)], [5, undefined]);
-    assert.throws(() => elf.section_by_name('a', -1), RangeError);
     const symbols = Elf.parse(own).syms();
-    for (const name of ['main', '']) {
+    for (const name of ['main', '', 'no such name']) {
         const named = [...symbols.entries()].filter(([, symbol]) => symbols.name(symbol) === name), all = [];
         for (let at = symbols.symbol_by_name(name); at; at = symbols.symbol_by_name(name, at.index + 1))
             all.push([at.index, at.symbol]);
-        assert.deepEqual(all, named);
-        assert.equal(symbols.by_name(name), named[0][0]);
+        assert.deepEqual([all, all.length > 0], [named, name !== 'no such name']);
     }
-    assert.equal(symbols.by_name('no such name'), undefined);
     // (a name need not be UTF-8)
-    const name = Buffer.from('caf\xe9', 'latin1'), index = symbols.by_name('main'), changed = Buffer.from(own);
+    const name = Buffer.from('caf\xe9', 'latin1'), changed = Buffer.from(own),
+        { index } = symbols.symbol_by_name('main');
     name.copy(changed, Number(symbols.strtab.range.offset + symbols.get(index).st_name));
-    assert.deepEqual([name, 'main'].map((wanted) => Elf.parse(changed).syms().by_name(wanted)), [index, undefined]);
-    const named = Buffer.from(content);
-    name.subarray(3).copy(named, Number(elf.shdr_strtab().range.offset + elf.section('b').sh_name));
+    assert.deepEqual([name, 'main'].map((wanted) => Elf.parse(changed).syms().symbol_by_name(wanted)?.index),
+        [index, undefined]);
+    const named = patched(content, [Number(elf.shdr_strtab().range.offset + elf.section('b').sh_name), 0xe9, 1]);
     assert.equal(Elf.parse(named).section_by_name(name.subarray(3)).index, 2);
-    assert.throws(() => symbols.symbol_by_name('main', -1), RangeError);
-    const cut = Elf.parse(content.subarray(0, content.length - 1));
-    assert.throws(() => cut.section_by_name('a'), is_refusal(Kind.TOO_BIG));
+    throw_all(RangeError, () => symbols.symbol_by_name('main', -1), () => elf.section_by_name('a', -1));
+    throw_all(is_refusal(Kind.TOO_BIG), () => Elf.parse(content.subarray(0, content.length - 1)).section_by_name('a'));
 });
 
 check('Strings are compared, closed by a zero byte, and found many at once', () => {
-    const text = Buffer.from('\0main\0\xff\xfe\0end', 'latin1');
+    const text = Buffer.from('\0main\0\xff\xfe\0end', 'latin1'), high = Uint8Array.of(0xff, 0xfe);
     const elf = Elf.parse(Buffer.concat([own, text])), sh_offset = BigInt(own.length);
-    const table = (sh_size) => elf.strtab({ sh_type: 3, sh_offset, sh_size }), names = table(12n);
-    assert.ok(names.is(1, 'main') && names.is(2n, 'ain') && names.is(9, 'end'));
-    assert.ok(names.is(6, Uint8Array.of(0xff, 0xfe)) && !names.is(6, Uint8Array.of(0xff)));
-    for (const [offset, name] of [[1, 'mai'], [1, 'main\0'], [0, 'm'], [12, ''], [2n ** 64n - 1n, '']])
-        assert.equal(names.is(offset, name), false);
-    assert.ok(names.starts_with(1, 'ma') && names.starts_with(0, '') && names.starts_with(6, Uint8Array.of(0xff)));
-    for (const [offset, start] of [[1, 'ain'], [9, 'ends'], [5, '\0'], [12, '']])
-        assert.equal(names.starts_with(offset, start), false);
-    assert.deepEqual(names.get_start(1, Infinity), names.get_bytes(1));
-    assert.deepEqual([names.get_start(1, 3), names.get_start(12, 3)], [new Uint8Array(Buffer.from('mai')), undefined]);
-    assert.deepEqual([names.get_start(1, 0), names.get_start(12, 0)], [new Uint8Array(), undefined]);
+    const table = (sh_size) => elf.strtab({ sh_type: 3, sh_offset, sh_size }), names = table(12n), past = table(13n);
+    for (const [call, is_so, ...cases] of [['is_at', true, [1, 'main'], [2n, 'ain'], [9, 'end'], [6, high]],
+        ['is_at', false, [6, high.subarray(0, 1)], [1, 'mai'], [1, 'main\0'], [0, 'm'], [12, ''], [END, '']],
+        ['starts_at', true, [1, 'ma'], [0, ''], [6, high.subarray(0, 1)]],
+        ['starts_at', false, [1, 'ain'], [9, 'ends'], [5, '\0'], [12, '']]])
+        for (const [offset, name] of cases) assert.equal(names[call](offset, name), is_so, `${call} ${offset} ${name}`);
+    assert.deepEqual([[1, Infinity], [1, 3], [12, 3], [1, 0], [12, 0]].map((given) => names.get_start(...given)),
+        [names.get_bytes(1), new Uint8Array(Buffer.from('mai')), undefined, new Uint8Array(), undefined]);
     // (a name may be bytes of the file, which a call may move: here the memory ends two bytes after the file)
     const whole = Elf.parse(own), { sh_name } = whole.section('.text'), at = whole.shdr_strtab().range.offset,
         more = Buffer.alloc(65534 - (whole.bytes.byteOffset + own.length) % 65536);
     const near = Elf.parse(Buffer.concat([own, more]));
-    assert.ok(near.shdr_strtab().is(sh_name, near.bytes.subarray(Number(at + sh_name)).subarray(0, 5)));
-    const closed = [0, 1, 9, 12].map((offset) => names.get_closed_bytes(offset)?.length);
-    assert.deepEqual(closed, [0, 4, undefined, undefined]);
-    const { offset: start, size } = names.range;
-    assert.deepEqual({ ...names.closed().range }, { offset: start, size: size - 3n });
-    assert.deepEqual(names.closed().closed().range, names.closed().range);
-    const offsets = Array.from({ length: 200 }, (_, i) => (i % 10 < 9 ? i % 10 : 12));
+    assert.ok(near.shdr_strtab().is_at(sh_name, near.bytes.subarray(Number(at + sh_name)).subarray(0, 5)));
+    assert.deepEqual([0, 1, 9, 12].map((offset) => names.get_closed_bytes(offset)?.length),
+        [0, 4, undefined, undefined]);
+    const { offset: start, size } = names.range, closed = names.closed();
+    assert.deepEqual([{ ...closed.range }, closed.closed().range], [{ offset: start, size: size - 3n }, closed.range]);
+    const offsets = times(200, (i) => (i % 10 < 9 ? i % 10 : 12));
     assert.deepEqual(names.get_all_bytes(offsets), offsets.map((offset) => names.get_bytes(offset)));
     const refused = error_of(() => names.get_all_bytes([0, 12, 10]));
     assert.deepEqual([refused.kind, refused.numbers[0], refused.offset, refused.message],
         [Kind.OPEN_STRING, 10n, sh_offset + 10n, 'No zero byte closes the string at offset 10 of its table']);
-    assert.deepEqual(names.get_all_bytes(new Set([6n])), [Uint8Array.of(0xff, 0xfe)]);
-    const past = table(13n);
-    for (const read of ['is', 'starts_with', 'get_closed_bytes'])
-        assert.throws(() => past[read](0, 'a'), is_refusal(Kind.STRTAB_RANGE));
-    assert.throws(() => past.get_all_bytes([0]), is_refusal(Kind.STRTAB_RANGE));
-    assert.throws(() => past.closed(), is_refusal(Kind.STRTAB_RANGE));
-    assert.deepEqual(past.get_all_bytes([]), []);
-    for (const wrong of [-1, 2n ** 64n]) assert.throws(() => names.get_all_bytes([wrong]), RangeError);
-    for (const wrong of [undefined, 5, ['m']])
-        assert.throws(() => names.is(1, wrong), { name: 'TypeError', message: /^bytes must be / });
+    assert.deepEqual([names.get_all_bytes(new Set([6n])), past.get_all_bytes([])], [[high], []]);
+    throw_all(is_refusal(Kind.STRTAB_RANGE), ...['is_at', 'starts_at', 'get_closed_bytes'].map((call) =>
+        () => past[call](0, 'a')), () => past.get_all_bytes([0]), () => past.closed());
+    throw_all(RangeError, [-1, 2n ** 64n].map((wrong) => () => names.get_all_bytes([wrong])));
+    throw_all(type_error('bytes must be'), [undefined, 5, ['m']].map((wrong) => () => names.is_at(1, wrong)));
 });
 
 // Its entries, of which several are read at a time, end before DT_NULL.
 check('The dynamic section is that of a segment, or without program headers a section', () => {
     const { DT_NULL, DT_NEEDED, DT_STRTAB, DT_SONAME, DT_STRSZ } = goblin, text = Buffer.from('\0liba\0libb\0');
     const with_segment = (entries) => dynamic_file(text, entries);
-    const pairs = (elf, most) => elf.dynamic(most).map(({ d_tag, d_val }) => [d_tag, d_val]);
+    const pairs = (elf, most) => elf.dynamic_section(most).map(({ d_tag, d_val }) => [d_tag, d_val]);
+    const end = [[DT_NULL, 0n], [DT_SONAME, 1n]];
     for (const count of [1, 63, 64, 65, 128, 200]) {
-        const all = Array.from({ length: count }, (_, i) => [DT_NEEDED, BigInt(i)]);
-        for (const end of [[], [[DT_NULL, 7n], [DT_SONAME, 1n]]]) {
-            const elf = Elf.parse(with_segment([...all, ...end]));
+        const all = times(count, (i) => [DT_NEEDED, BigInt(i)]);
+        for (const elf of [all, [...all, ...end]].map((entries) => Elf.parse(with_segment(entries))))
             for (const most of [undefined, 0, 1, 64, 100]) assert.deepEqual(pairs(elf, most), all.slice(0, most));
-        }
     }
     const entries = [[DT_NEEDED, 6n], [DT_NEEDED, 1n], [DT_STRTAB, 0x400000n], [DT_STRSZ, 11n]],
-        bytes = longs(...entries, [DT_NULL, 0n], [DT_SONAME, 1n]);
+        bytes = longs(...entries, ...end);
     const sections = [{ name: '.dynamic', type: 6, link: 2, bytes }, { name: '.dynstr', type: 3, bytes: text }];
-    const whole = with_segment([...entries, [DT_NULL, 0n], [DT_SONAME, 1n]]), of_section = elf_file({ sections });
+    const whole = with_segment([...entries, ...end]), of_section = elf_file({ sections });
     for (const elf of [whole, of_section].map(Elf.parse)) {
         assert.deepEqual(pairs(elf), entries);
-        assert.deepEqual(elf.dynamic().slice(0, 2).map(({ d_val }) => elf.dynamic_strings().get(d_val)),
+        assert.deepEqual(elf.dynamic_section().slice(0, 2).map(({ d_val }) => elf.dynamic_strings().get(d_val)),
             ['libb', 'liba']);
-        assert.deepEqual([1, DT_STRSZ, DT_SONAME, DT_NULL, 2n ** 64n - 1n].map((tag) => elf.dynamic_value(tag)),
+        assert.deepEqual([1, DT_STRSZ, DT_SONAME, DT_NULL, END].map((tag) => elf.dynamic_value(tag)),
             [6n, 11n, undefined, undefined, undefined]);
-        assert.throws(() => elf.dynamic_value(-1), RangeError);
+        throw_all(RangeError, () => elf.dynamic_value(-1));
     }
+    // (goblin goes by segments alone)
+    assert.deepEqual([whole, of_section].map((content) => Elf.parse(content).libraries()), [['libb', 'liba'], []]);
     const without = [elf_file({ segments: [{ bytes: text }], sections }), with_segment([[DT_NULL, 0n]]), noted];
-    for (const elf of without.map(Elf.parse)) assert.deepEqual([elf.dynamic(), elf.dynamic_value(1)], [[], undefined]);
+    for (const elf of without.map(Elf.parse))
+        assert.deepEqual([elf.dynamic_section(), elf.dynamic_value(1)], [[], undefined]);
     for (const content of [...without, with_segment(entries.slice(0, 3)), with_segment(entries.slice(1, 2))])
         assert.equal(Elf.parse(content).dynamic_strings().range.size, 0n);
-    const long = new Uint8Array(of_section), writer = Elf.parse(long).writer(long);
-    writer.put_section_header(1, { ...Elf.parse(long).section_header(1), sh_size: 1n << 40n });
-    for (const elf of [whole.subarray(0, -1), long].map(Elf.parse))
-        for (const read of ['dynamic', 'dynamic_value', 'dynamic_strings'])
-            assert.throws(() => elf[read](1), is_refusal(Kind.TOO_BIG));
-    assert.throws(() => Elf.parse(with_segment([[DT_STRTAB, 0x400000n], [DT_STRSZ, 999n]])).dynamic_strings(),
-        is_refusal(Kind.TOO_BIG));
+    const long = new Uint8Array(of_section);
+    Elf.parse(long).writer(long).put_section_header(1, { ...Elf.parse(long).section_header(1), sh_size: 1n << 40n });
+    throw_all(is_refusal(Kind.TOO_BIG), ...[whole.subarray(0, -1), long].map(Elf.parse).flatMap((elf) =>
+        ['dynamic_section', 'dynamic_value', 'dynamic_strings'].map((call) => () => elf[call](1))),
+    () => Elf.parse(with_segment([[DT_STRTAB, 0x400000n], [DT_STRSZ, 999n]])).dynamic_strings());
 });
 
-check('Errors begin, and their numbers count from, where the comments of `offset` and `Kind` say', () => {
+check('Errors begin, and their numbers count from, where the comments of `offset` and `numbers` say', () => {
     const why = (read) => (({ kind, numbers, offset }) => [kind, ...numbers.slice(0, 2), offset])(error_of(read));
     const { TOO_BIG, BAD_OFFSET, NOTE_ALIGN } = Kind, whole = Elf.parse(own), list = whole.header.e_shoff,
-        header_5 = list + 5n * 64n;
+        header_5 = list + 5n * 64n, text = whole.section('.text'), past = text.sh_size + 5n;
     for (const [length, ...refusal] of [[header_5 + 10n, TOO_BIG, 64n, 10n], [header_5, BAD_OFFSET, header_5, 0n]]) {
         const cut = Elf.parse(own.subarray(0, Number(length)));
         assert.deepEqual([why(() => cut.section_headers()), why(() => cut.section_name(whole.section_header(1)))],
             Array(2).fill([...refusal, list]));
-        assert.equal(cut.whole().section_headers().length, 5);
-        const names = whole.section_header(whole.header.e_shstrndx);
-        assert.equal(cut.strtab(names).get(whole.section('.text').sh_name), '.text');
+        const names = cut.strtab(whole.section_header(whole.header.e_shstrndx));
+        assert.deepEqual([cut.whole().section_headers().length, names.get(text.sh_name)], [5, '.text']);
     }
-    const text = whole.section('.text'), past = text.sh_size + 5n;
     assert.deepEqual(why(() => whole.number_in(text, past, 1)), [BAD_OFFSET, past, 0n, text.sh_offset + past]);
     // the second note begins 20 bytes after the first, its name 12 bytes after that, and its descriptor 8 bytes later
     const elf = Elf.parse(noted), section = elf.section('.note'), first = section.sh_offset, second = first + 20n;
@@ -902,27 +834,24 @@ check('Errors begin, and their numbers count from, where the comments of `offset
         assert.deepEqual([why(() => cut.notes(section)), why(() => cut.notes_bytes(section))],
             [[...of_text, start], [...of_bytes, start]]);
     }
-    for (const alignment of [0n, 1n, 2n, 3n, 4n])
-        assert.equal(elf.notes({ ...section, sh_addralign: alignment }).length, 2);
-    for (const alignment of [5n, 7n, 9n]) {
-        assert.deepEqual(why(() => elf.notes({ ...section, sh_addralign: alignment })),
-            [NOTE_ALIGN, alignment, 0n, first]);
-    }
+    const aligned = (sh_addralign) => elf.notes({ ...section, sh_addralign });
+    assert.deepEqual([0n, 1n, 2n, 3n, 4n].map((alignment) => aligned(alignment).length), [2, 2, 2, 2, 2]);
+    for (const alignment of [5n, 7n, 9n])
+        assert.deepEqual(why(() => aligned(alignment)), [NOTE_ALIGN, alignment, 0n, first]);
 });
 
 check('Strings that no zero byte closes are not read for each offset', () => {
     // (of each all 2 MiB would be read, which is 4 GB)
     const size = 2 << 20, elf = Elf.parse(Buffer.concat([own, Buffer.alloc(size, 'a')])),
         strtab = elf.strtab({ sh_type: 3, sh_offset: BigInt(own.length), sh_size: BigInt(size) });
-    assert.throws(() => strtab.get_all_bytes(Array.from({ length: 2000 }, (_, i) => i)),
-        is_refusal(Kind.OPEN_STRING, BigInt(own.length)));
+    throw_all(is_refusal(Kind.OPEN_STRING, BigInt(own.length)), () => strtab.get_all_bytes(times(2000, (i) => i)));
 });
 
 check('The example needed.mjs reads strings that no zero byte closes once, and not for each name', () => {
     const folder = mkdtempSync(join(tmpdir(), 'goblin-')), path = join(folder, 'open'), count = 20000,
-        text = Buffer.alloc(1 << 24, 'x').fill('\0closed\0', 0, 8), end = [5, 0x400000, 10, text.length, 0, 0];
-    const names = [1, ...Array.from({ length: count }, (_, i) => 8 + i)];
-    writeFileSync(path, dynamic_file(text, [...names.map((name) => [1, name]), end]));
+        text = Buffer.alloc(1 << 24, 'x').fill('\0closed\0', 0, 8);
+    writeFileSync(path, dynamic_file(text, [[1, 1], ...times(count, (i) => [1, 8 + i]), [5, 0x400000],
+        [10, text.length], [0, 0]]));
     // (a gigabyte a second would take minutes)
     const args = [...process.execArgv, join(web, 'examples/needed.mjs'), path],
         { stdout, status } = spawnSync(process.execPath, args, { timeout: 90_000, maxBuffer: 1 << 24 }),
@@ -932,46 +861,44 @@ check('The example needed.mjs reads strings that no zero byte closes once, and n
         'needed: no zero byte closes a string at offset 8']);
 });
 
-check('A map finds what `by_address` finds', () => {
+check('A map finds what `symbol_by_address` of a table finds', () => {
     let found = 0;
     const symbols_of = (made, type = 1, ...others) => Elf.parse(elf_file({ type,
         sections: [{ name: '.symtab', type: 2, bytes: Buffer.concat(made.map(symbol)) }, ...others] })).syms();
     const agrees = (symbols, addresses) => {
         const map = symbols.address_map();
         for (const address of addresses) {
-            const wanted = symbols.by_address(address);
-            assert.deepEqual([map.at(address), map.symbol(address)],
-                [wanted, wanted === undefined ? undefined : symbols.get(wanted)]);
-            if (wanted !== undefined) found++;
+            const wanted = symbols.symbol_by_address(address);
+            assert.deepEqual(map.symbol_by_address(address), wanted);
+            if (wanted) assert.deepEqual(wanted.symbol, symbols.get(wanted.index));
+            found += Number(wanted !== undefined);
         }
-        assert.throws(() => map.at(-1), RangeError);
-        assert.throws(() => map.at('1'), TypeError);
+        throw_all(RangeError, () => map.symbol_by_address(-1));
+        throw_all(TypeError, () => map.symbol_by_address('1'));
         return map;
     };
-    for (const content of files) {
-        const elf = Elf.parse(content), symbols = elf.syms() ?? elf.dynsyms();
-        if (!symbols) continue;
-        const values = [...symbols].slice(0, 300).map(({ st_value }) => st_value);
-        agrees(symbols, values.flatMap((value) => [value, value + 1n, value + 0x40n]).concat(0, END));
+    for (const elf of files.map(Elf.parse)) {
+        const symbols = elf.syms() ?? elf.dynsyms(),
+            values = [...symbols ?? []].slice(0, 300).map(({ st_value }) => st_value);
+        if (symbols) agrees(symbols, values.flatMap((value) => [value, value + 1n, value + 0x40n]).concat(0, END));
     }
-    const main = Elf.parse(own).syms();
-    assert.equal(main.name(main.address_map().symbol(main.get(main.by_name('main')).st_value)), 'main');
+    const main = Elf.parse(own).syms(), { st_value } = main.symbol_by_name('main').symbol;
+    assert.equal(main.name(main.address_map().symbol_by_address(st_value).symbol), 'main');
     // a symbol around others, one that ends before, two at one address, a label, and one that ends with the addresses
     const shndx = 1, info = 2, made = [{}, { value: 0x10, size: 0x40 }, { value: 0x20, size: 4 },
         { value: 0x30, size: 4 }, { value: 0x30, size: 8 }, { value: 0x60 }, { value: 0x70, size: 0x10 },
         { value: 0x70 }, { value: END - 3n, size: END }].map((fields) => ({ ...fields, shndx, info }));
     const map = agrees(symbols_of(made), [...Array(0x90).keys()].concat([END - 4n, END - 3n, END]));
-    const wanted = [[0, 0], [0x10, 1], [0x22, 2], [0x24, 1], [0x33, 3], [0x34, 4], [0x38, 1], [0x50, undefined],
-        [0x60, 5], [0x6f, 5], [0x7f, 6], [0x80, 7], [END, 8]];
-    for (const [address, index] of wanted) assert.equal(map.at(address), index, `address ${address}`);
+    for (const [address, index] of [[0, 0], [0x10, 1], [0x22, 2], [0x24, 1], [0x33, 3], [0x34, 4], [0x38, 1],
+        [0x50, undefined], [0x60, 5], [0x6f, 5], [0x7f, 6], [0x80, 7], [END, 8]])
+        assert.equal(map.symbol_by_address(address)?.index, index, `address ${address}`);
     let state = 1;
     const any = (below) => { state = (Math.imul(state, 1103515245) + 12345) >>> 0; return (state >>> 8) % below; };
     for (let round = 0; round < 300; round++) {
-        const some = Array.from({ length: any(28) }, () => ({ value: any(24), size: any(9) ? any(12) * any(2) : END,
+        const some = times(any(28), () => ({ value: any(24), size: any(9) ? any(12) * any(2) : END,
             shndx: [1, 2, 2, 3, 3, 4, 4, 9, 0xffff, 0, 0xfff1][any(11)], info: [2, 2, 0, 1, 10, 3][any(6)] }));
-        const others = ['.a', '.b', '.c'].map((name) =>
-            ({ name, type: 1, flags: [2, 2, 6, 5][any(4)], addr: any(9) ? any(20) : END - BigInt(any(9)),
-                bytes: Buffer.alloc(any(24)) }));
+        const others = ['.a', '.b', '.c'].map((name) => data(name, Buffer.alloc(any(24)),
+            { flags: [2, 2, 6, 5][any(4)], addr: any(9) ? any(20) : END - BigInt(any(9)) }));
         agrees(symbols_of([...some, {}], any(4), ...others), [...Array(40).keys()].concat(END - 1n, END));
     }
     assert.ok(found > 5000, `${found} addresses`);
@@ -988,36 +915,33 @@ check('A segment holds sections by their ranges, addresses, types and flags', ()
         { sh_type, sh_flags, sh_offset: BigInt.asUintN(64, 0x100n + BigInt(before)),
             sh_addr: BigInt.asUintN(64, 0x1100n + BigInt(before)), sh_size: BigInt.asUintN(64, BigInt(size)) });
     const loaded = (p_type, range) => holds(p_type, SHF_ALLOC, SHT_PROGBITS, range);
-    const zeros = (range) => holds(PT_LOAD, SHF_ALLOC, SHT_NOBITS, range);
     const of_thread = (p_type, sh_type) => holds(p_type, SHF_ALLOC | SHF_TLS, sh_type, [1, 1]);
     const empty = (sh_offset, sh_size) => goblin.segment_holds(
         { p_type: PT_NOTE, p_offset: 0x100n, p_filesz: 0n, p_vaddr: 0n, p_memsz: 0n },
         { sh_type: SHT_NOTE, sh_flags: 0n, sh_offset, sh_addr: 0n, sh_size });
-    const found = [
-        [[0, 0x50], [0x4f, 1], [0, 0x51], [-1, 1], [0x50, 1], [1, -1], [0, 0], [0x50, 0]]
-            .map((range) => loaded(PT_LOAD, range)),
+    for (const [wanted, found] of [
+        ['11000010', [[0, 0x50], [0x4f, 1], [0, 0x51], [-1, 1], [0x50, 1], [1, -1], [0, 0], [0x50, 0]]
+            .map((range) => loaded(PT_LOAD, range))],
         // without bytes in the file only the addresses count
-        [[0x50, 0x30], [0x50, 0x31], [0x80, 0]].map(zeros),
+        ['100', [[0x50, 0x30], [0x50, 0x31], [0x80, 0]].map((range) => holds(PT_LOAD, SHF_ALLOC, SHT_NOBITS, range))],
         // some segments hold only loaded sections
-        [PT_LOAD, PT_DYNAMIC, PT_GNU_EH_FRAME, PT_GNU_RELRO, PT_GNU_STACK, PT_INTERP]
-            .map((p_type) => holds(p_type, 0n, SHT_PROGBITS, [1, 1])),
-        [PT_PHDR, PT_TLS, PT_DYNAMIC].map((p_type) => loaded(p_type, [1, 1])),
+        ['000001', [PT_LOAD, PT_DYNAMIC, PT_GNU_EH_FRAME, PT_GNU_RELRO, PT_GNU_STACK, PT_INTERP]
+            .map((p_type) => holds(p_type, 0n, SHT_PROGBITS, [1, 1]))],
+        ['001', [PT_PHDR, PT_TLS, PT_DYNAMIC].map((p_type) => loaded(p_type, [1, 1]))],
         // thread-local storage
-        [PT_TLS, PT_LOAD, PT_GNU_RELRO, PT_NOTE, PT_GNU_STACK].map((p_type) => of_thread(p_type, SHT_PROGBITS)),
-        [PT_TLS, PT_LOAD, PT_GNU_RELRO].map((p_type) => of_thread(p_type, SHT_NOBITS)),
+        ['11100', [PT_TLS, PT_LOAD, PT_GNU_RELRO, PT_NOTE, PT_GNU_STACK].map((type) => of_thread(type, SHT_PROGBITS))],
+        ['100', [PT_TLS, PT_LOAD, PT_GNU_RELRO].map((p_type) => of_thread(p_type, SHT_NOBITS))],
         // an empty section at the start of a segment of notes is not held, unless the segment is empty, too
-        [PT_NOTE, PT_DYNAMIC, PT_LOAD].map((p_type) => loaded(p_type, [0, 0])),
-        [PT_NOTE, PT_DYNAMIC, PT_LOAD].map((p_type) => loaded(p_type, [1, 0])),
-        [empty(0x100n, 0n), empty(0x101n, 0n), empty(0x100n, 1n)],
-    ];
-    const wanted = ['11000010', '100', '000001', '001', '11100', '100', '001', '111', '100'];
-    assert.deepEqual(found, wanted.map((held) => Array.from(held, (digit) => digit === '1')));
+        ['001', [PT_NOTE, PT_DYNAMIC, PT_LOAD].map((p_type) => loaded(p_type, [0, 0]))],
+        ['111', [PT_NOTE, PT_DYNAMIC, PT_LOAD].map((p_type) => loaded(p_type, [1, 0]))],
+        ['100', [empty(0x100n, 0n), empty(0x101n, 0n), empty(0x100n, 1n)]],
+    ]) assert.equal(found.map(Number).join(''), wanted);
 });
 
 // Returns lines of the constants of the library, which a proved program prints, and of others. Only the name
 // of a constant of one class begins with its module.
 function constants_of_library() {
-    const read = (name) => readFileSync(new URL(`../../${name}`, import.meta.url), 'utf8');
+    const read = (name) => readFileSync(new URL(name, stored), 'utf8');
     const of_library = Array.from(read('crates/goblin_names/stdout').matchAll(/^(\w+)::(\w+ .*)$/gm),
         ([, module, line]) => (/\d\d$/.test(module) ? `${module}.${line}` : line));
     const others = Array.from(read('faces/other_constants.rs').matchAll(/^pub const (\w+): \w+ = (\w+);$/gm),
@@ -1029,15 +953,15 @@ check('Constants are those that the library prints, in the types of the fields t
     const { VERSION, ...of_records } = await import(pathToFileURL(resolve(web, 'constants.js'))), found = [];
     assert.equal(goblin.VERSION, VERSION);
     for (const [name, value] of Object.entries(of_records)) {
+        const is_object = typeof value === 'object';
         assert.equal(goblin[name], value);
-        if (typeof value === 'object') assert.ok(Object.isFrozen(value), name);
-        if (Array.isArray(value)) found.push(`${name} [${value.join(', ')}]`);
-        else if (typeof value === 'object')
+        if (is_object) assert.ok(Object.isFrozen(value), name);
+        if (is_object && !Array.isArray(value))
             found.push(...Object.entries(value).map(([field, number]) => `${name}.${field} ${number}`));
-        else found.push(`${name} ${value}`);
+        else found.push(`${name} ${is_object ? `[${value.join(', ')}]` : value}`);
         // its type must be that of the field that holds it
         const is_big = /^(SH[FN]|D[TF])_/.test(name) && name !== 'SHF_NUM_REGULAR_FLAGS';
-        if (typeof value !== 'object') assert.equal(typeof value, is_big ? 'bigint' : 'number', name);
+        if (!is_object) assert.equal(typeof value, is_big ? 'bigint' : 'number', name);
     }
     const wanted = constants_of_library();
     assert.ok(wanted.length >= 374);
@@ -1047,10 +971,14 @@ check('Constants are those that the library prints, in the types of the fields t
 
 // Returns the declarations for TypeScript: for each type the names and types of its members.
 function declared_members(declared, word) {
-    const bodies = declared.matchAll(new RegExp(`^export ${word} (\\w+)[^\\n]* {\\n(.*?)^}`, 'gms'));
-    return Object.fromEntries([...bodies].map(([, name, body]) => [name, Object.fromEntries(
-        [...body.matchAll(/^ {4}(?:static |readonly )?(\w+|\[Symbol\.iterator\])(?:<\w+>)?(?:: |(?=\())(.*);$/gm)]
-            .map(([, member, type]) => [member, type]))]));
+    const found = {}, form = `^export ${word} (\\w+)(?: extends Omit<(\\w+), '(\\w+)'>)?[^\\n]* {\\n(.*?)^}`;
+    for (const [, name, base, without, body] of declared.matchAll(new RegExp(form, 'gms'))) {
+        const { [without]: _, ...others } = found[base] ?? {};
+        found[name] = { ...others, ...Object.fromEntries(Array.from(body.matchAll(
+            /^ {4}(?:static |readonly )?(\w+|\[Symbol\.iterator\])(?:<\w+>)?(?:: |(?=\())(.*);$/gm),
+            ([, member, type]) => [member, type])) };
+    }
+    return found;
 }
 
 check('The declarations have all that goblin.js exports', () => {

@@ -1,16 +1,16 @@
 #!/usr/bin/env python3
 """Writes goblin.d.ts, the declarations of goblin.js for TypeScript, to standard output: python3 declarations.py
 
-They are made from the JSDoc comments of goblin.js and constants.js, whose types are TypeScript's. Only what has such a comment is
-declared. calls.mjs compares the declarations with what goblin.js exports.
+They are made from the JSDoc comments of goblin.js, interface.js and constants.js, whose types are TypeScript's. Only what has such a comment
+is declared. calls.mjs compares the declarations with what goblin.js exports.
 """
 import os
 import re
 import sys
 
 HERE = os.path.dirname(os.path.abspath(__file__))
-COMMENT = re.compile(r'^(?P<indent> *)/\*\*(?P<text>(?:(?!\*/).)*)\*/\n(?P<code>[^\n]*)', re.M | re.S)
-TAG = re.compile(r'(?:^|\s)@(typedef|property|param|returns|overload|type|template|extends|index)\b')
+COMMENT = re.compile(r'^(?P<indent> *)/\*\*(?P<text>(?:(?!\*/).)*)\*/\n(?=(?P<code>[^\n]*))', re.M | re.S)
+TAG = re.compile(r'(?:^|\s)@(typedef|property|type|template|extends|index)\b')
 CLASS = re.compile(r'export class (?P<name>\w+)(?: extends (?P<base>\w+))? {')
 FUNCTION = re.compile(r'export (?:default )?(?:async )?function (?P<name>\w+)\((?P<parameters>.*)\) {$')
 ARROW = re.compile(r'export const (?P<name>\w+) = \((?P<parameters>[^()]*)\) =>')
@@ -57,15 +57,30 @@ class Comment:
         return f'<{", ".join(names)}>' if names else ''
 
     def call(self, name, code):
-        """Returns the declaration of a function. `code` is the text between the parentheses of its definition."""
-        tags = [(kind, text.split()[0]) for kind, text in self.tags.get('param', [])]
-        names = [tag.strip('[]') for _, tag in tags]
-        if '{' not in code and names != [parameter.split(' = ')[0] for parameter in re.split(r', (?![^(]*\))', code) if parameter]:
+        """Returns the declaration of a function, one for each of its types. `code` is what is between the parentheses of its definition."""
+        calls = [split_call(kind) for kind, _ in self.tags.get('type', [])]
+        names = [re.match(r'(?:\.\.\.)?\w+', parameter)[0] for parameter in split_list(calls[-1][1])] if calls else ['no type']
+        if '{' not in code and names != [parameter.split(' = ')[0] for parameter in split_list(code)]:
             sys.exit(f'declarations.py: {name} has the parameters {code}, but its comment has {names}')
-        if 'returns' not in self.tags:
-            sys.exit(f'declarations.py: the comment of {name} has no @returns')
-        parameters = ', '.join(f'{tag.strip("[]")}{"?" if tag.startswith("[") else ""}: {kind}' for kind, tag in tags)
-        return f'{name}{self.templates()}({parameters}): {self.first("returns")[0]};\n'
+        return [f'{name}{templates}({parameters}): {result};\n' for templates, parameters, result in calls]
+
+
+def split_list(text):
+    """Splits a text at its commas, but for those in brackets of any kind."""
+    parts, depth = [''], 0
+    for before, character in zip(' ' + text, text):
+        depth += (character in '([{<') - (character in ')]}' or character == '>' and before != '=')
+        parts[-1] += character
+        if character == ',' and depth == 0:
+            parts[-1:] = [parts[-1][:-1], '']
+    return [part.strip() for part in parts if part.strip()]
+
+
+def split_call(kind):
+    """Splits the type of a function into its templates, its parameters and its result."""
+    templates, rest = re.match(r'(<\w+>)?(.*)', kind, re.S).groups()
+    end = next(i for i in range(len(rest)) if rest[:i].count('(') == rest[:i].count(')') > 0)
+    return templates or '', rest[1:end - 1], rest[end + 4:]
 
 
 def type_of(value, source):
@@ -80,12 +95,14 @@ def type_of(value, source):
 
 
 def interface(comment):
-    _, name = comment.first('typedef')
-    fields = ''
+    kind, name = comment.first('typedef')
+    if kind != 'object':
+        return f'{comment.printed("")}export type {name} = {kind};\n\n'
+    base, fields = comment.first('extends')[0], ''
     for kind, text in comment.tags['property']:
         field, _, text = text.partition(' ')
-        fields += f'    /** {text} */\n    {field}: {kind};\n'
-    return f'{comment.printed("")}export interface {name} {{\n{fields}}}\n\n'
+        fields += (f'    /** {text} */\n' if text else '') + f'    {field}: {kind};\n'
+    return f'{comment.printed("")}export interface {name}{base and f" extends {base}"} {{\n{fields}}}\n\n'
 
 
 def exported(comment, code, source):
@@ -95,22 +112,19 @@ def exported(comment, code, source):
     match = FUNCTION.match(code) or ARROW.match(code)
     if match:
         keyword = 'default function' if 'export default' in code else 'function'
-        return f'{comment.printed("")}export {keyword} {comment.call(match["name"], match["parameters"])}\n'
+        return f'{comment.printed("")}export {keyword} {comment.call(match["name"], match["parameters"])[0]}\n'
     match = CONSTANT.match(code)
     return f'{comment.printed("")}export const {match["name"]}: {type_of(match["value"], source)};\n' if match else ''
 
 
 def member(comment, code):
     """Returns the declaration of a method, or of a field that a constructor sets."""
-    field = FIELD.match(code)
-    if field:
+    field, method = FIELD.match(code), METHOD.match(code)
+    if field or method['is_getter']:
         kind, text = comment.first('type')
-        return f'{comment.printed("    ", text)}    readonly {field["name"]}: {kind};\n'
-    method = METHOD.match(code)
-    if method['is_getter']:
-        return f'{comment.printed("    ")}    readonly {method["name"]}: {comment.first("returns")[0]};\n'
-    others = ''.join(f'    {method["name"]}{kind};\n' for kind, _ in comment.tags.get('overload', []))
-    return f'{comment.printed("    ")}{others}    {method["is_static"] or ""}{comment.call(method["name"], method["parameters"])}'
+        return f'{comment.printed("    ", text)}    readonly {(field or method)["name"]}: {kind};\n'
+    calls = comment.call(method['name'], method['parameters'])
+    return comment.printed('    ') + ''.join(f'    {method["is_static"] or ""}{call}' for call in calls)
 
 
 def declarations(name):
@@ -139,4 +153,4 @@ def declarations(name):
 
 
 print('// The types of goblin.js, made from its comments by declarations.py.\n')
-print(declarations('goblin.js') + declarations('constants.js').strip())
+print(''.join(map(declarations, ('goblin.js', 'interface.js', 'constants.js'))).strip())

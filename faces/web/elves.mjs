@@ -2,6 +2,9 @@
 
 const align = (number, to) => Math.ceil(number / to) * to;
 
+/** Returns what a function returns for each index of a list of some length. */
+export const times = (length, of) => Array.from({ length }, (_, index) => of(index));
+
 /** Returns a struct of fields, each a number and its width in bytes. */
 export function packed(...fields) {
     const bytes = Buffer.alloc(fields.reduce((all, [, width]) => all + width, 0));
@@ -47,10 +50,11 @@ export function symbols_file(symbols, ...others) {
     ] });
 }
 
-/** Returns a section of relocations with addends, and one of code. */
+/** Returns a section of relocations with addends, one of data, and one of code. */
 export const relocations = (...all) => ({ name: '.rela', type: 4, entsize: 24, bytes: Buffer.concat(all.map(
     ({ offset = 0, sym = 0, type, addend = 0 }) => packed([offset, 8], [type, 4], [sym, 4], [addend, 8]))) });
-export const code = (bytes, given) => ({ name: '.text', type: 1, flags: 6, bytes, ...given });
+export const data = (name, bytes, given) => ({ name, type: 1, bytes, ...given });
+export const code = (bytes, given) => data('.text', bytes, { flags: 6, ...given });
 
 /** Returns a file whose segments are notes and perhaps others. It is a core, unless another type is given. */
 export const noted_file = (notes, { segments = [], ...given } = {}) =>

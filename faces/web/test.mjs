@@ -1,256 +1,61 @@
 // Tests goblin.js against C: test.mjs FOLDER DUMP FILE.. What goblin.js in FOLDER reads of the files and of damaged
-// copies must be what DUMP (faces/c/dump.c) prints. The module must have no imports, and goblin.h's structs and kinds.
+// copies must be what DUMP (faces/c/tests/dump.c) prints. The module must have no imports, and the structs and kinds
+// of goblin.h.
 import assert from 'node:assert/strict';
 import { spawnSync } from 'node:child_process';
 import { mkdtempSync, readFileSync, rmSync, writeFileSync } from 'node:fs';
 import { tmpdir } from 'node:os';
-import { join } from 'node:path';
-import { setFlagsFromString } from 'node:v8';
-import { runInNewContext } from 'node:vm';
-import { csv_line } from './csv.js';
-import { demangled, may_hold } from './demangle.js';
-import {
-    dynamic_file, elf_file, longs, note, noted_file, packed, patched, relocations, symbol, symbols_file,
-} from './elves.mjs';
+import { join, resolve } from 'node:path';
+import { pathToFileURL } from 'node:url';
 import { import_goblin } from './tested.mjs';
 
 const COPIES = 150, FEW = 3, WHOLE = 20, FIRST = 16;
 const [, , web, dump, ...files] = process.argv;
-const goblin = await import_goblin(web);
+const goblin = await import_goblin(web), { CALLS, STRUCTS } = await import(pathToFileURL(resolve(web, 'interface.js')));
 
-const header = readFileSync(new URL('../c/goblin.h', import.meta.url), 'utf8');
+const header = readFileSync(new URL('../c/goblin.h', import.meta.url), 'utf8'),
+    module = new WebAssembly.Module(readFileSync(join(web, 'goblin_c.wasm')));
 
-// Each byte of a struct's first field must be 1, of its second 2, and so on, as goblin_layout fills them.
+// The sizes of the structs are the library's, and each byte of a struct's first field is 1, of its second 2, and so on,
+// as goblin_layout fills them.
 function check_layout() {
-    const fields = { refusal: 7, range: 2, header: 18, section: 10, segment: 8, symbol: 6, reloc: 4, note: 6, dyn: 2 };
-    const layout = goblin.layout();
-    assert.deepEqual(Object.keys(layout), Object.keys(fields));
-    for (const [kind, { item, size, library_size }] of Object.entries(layout)) {
-        assert.equal(BigInt(size), library_size, kind);
-        const values = Object.values(item);
-        assert.equal(values.length, fields[kind], kind);
-        values.forEach((value, i) =>
-            assert.match(value.toString(16), new RegExp(`^(0?${(i + 1).toString(16)})+$`), kind));
+    const { memory, __heap_base, goblin_layout } = new WebAssembly.Instance(module, {}).exports,
+        start = Math.ceil(Number(__heap_base.value) / 8) * 8, kinds = Object.entries(STRUCTS);
+    // (newer engines take a BigInt)
+    try { memory.grow(1n); } catch { memory.grow(1); }
+    const view = new DataView(memory.buffer), size = Number(goblin_layout(BigInt(start), 65536n));
+    // (the last size is that of a goblin_file_t, which is no item)
+    let at = start + 8 * (kinds.length + 1);
+    for (const [i, [kind, { size, fields }]] of kinds.entries()) {
+        assert.equal(BigInt(size), view.getBigUint64(start + 8 * i, true), kind);
+        const bytes = Buffer.from(memory.buffer, at, size);
+        for (const [number, [name, offset, width]] of fields.entries()) {
+            const field = bytes.subarray(offset, offset + (width === 's' ? 8 : width));
+            assert.ok(field.every((byte) => byte === number + 1), `${kind}.${name}`);
+        }
+        assert.equal(Math.max(...bytes), fields.length, kind);
+        at += size;
     }
+    assert.equal(at - start, size);
 }
 
 function check_module() {
-    const module = new WebAssembly.Module(readFileSync(join(web, 'goblin_c.wasm')));
     assert.deepEqual(WebAssembly.Module.imports(module), []);
     const exported = WebAssembly.Module.exports(module).map(({ name }) => name)
         .filter((name) => name.startsWith('goblin_'));
     const declared = [...header.matchAll(/^(?:\w+_t|void|bool) (goblin_\w+)\(/gm)].map(([, call]) => call);
-    assert.deepEqual(exported.sort(), declared.sort());
+    for (const names of [exported, CALLS]) assert.deepEqual([...names].sort(), declared.sort());
     console.log(`goblin_c.wasm has no imports, and exports the ${declared.length} calls of goblin.h`);
 }
 
 function check_kinds() {
     const numbers_after = (start) => Object.fromEntries(Array.from(header.split(start)[1].split('};')[0]
         .matchAll(/GOBLIN_(?:REFUSED_|ITEM_)?(\w+) = (\d+)/g), ([, name, number]) => [name, Number(number)]));
-    const kinds = numbers_after('GOBLIN_END = 1,\n');
-    assert.equal(Object.keys(kinds).length, 16);
+    const kinds = Object.entries(goblin.Kind).filter(([, number]) => number < 0xfffffff0);
+    assert.equal(kinds.length, 16);
+    assert.deepEqual(Object.fromEntries(kinds), numbers_after('GOBLIN_END = 1,\n'));
     assert.deepEqual({ ...goblin.Item }, numbers_after('0 for refusals that have none. */\n'));
-    assert.deepEqual({ ...goblin.Kind }, { ...kinds, OPEN_STRING: 2 ** 32 - 3, SECTION_TYPE: 2 ** 32 - 1 });
     assert.equal(goblin.VERSION, Number(/GOBLIN_VERSION (\d+)/.exec(header)[1]));
-}
-
-// The facts that the page shows are those of the table of stored files, by which the Python package is tested, too.
-async function check_facts() {
-    const [{ default: init, Elf }, { facts }] = await Promise.all([import('./goblin.js'), import('./facts.js')]);
-    await init(readFileSync(join(web, 'goblin_c.wasm')));
-    const number = (_, value) => (typeof value === 'bigint' ? Number(value) : value);
-    const of = (content) => JSON.parse(JSON.stringify(facts(Elf.parse(content)), number));
-    const read = (name) => readFileSync(new URL(`../../checks/files/${name}`, import.meta.url));
-    const table = Object.entries(JSON.parse(read('facts.json')));
-    for (const [name, wanted] of table) assert.deepEqual(of(read(name)), wanted, name);
-    assert.ok(table.length > 40);
-    // (a call may take memory after the file's bytes, which moves them: here for the first name that is looked up)
-    const program = read('made/x86_64_program'), { bytes } = Elf.parse(program);
-    const more = 65536 - (bytes.byteOffset + program.length) % 65536 - 4;
-    assert.deepEqual(of(Buffer.concat([program, Buffer.alloc(more)])), of(program));
-    check_made_facts(of);
-    check_slots(of);
-    check_bounds(of);
-    await check_versions(Elf);
-    await check_registers(Elf);
-    await check_names(Elf);
-    console.log(`facts.js says of ${table.length} stored files what facts.json says`);
-}
-
-// A fact is known up to what is read, and unknown past it: one more byte, entry, note or name.
-function check_bounds(of) {
-    const of_segments = (...segments) => of(elf_file({ type: 3, segments })),
-        of_notes = (...notes) => of(noted_file(notes, { type: 3 }));
-    const repeat = (count, part) => Buffer.concat(Array.from({ length: count }, () => part));
-    const id = note('GNU', 3, Buffer.from('id..')), other = note('ABC', 1, Buffer.alloc(0));
-    const marks = (size) => note('GNU', 5, Buffer.concat([packed([0xc0000002, 4], [4, 4], [1, 4]),
-        Buffer.alloc(size - 12)]));
-    const canaries = (count) => of(symbols_file([...Array.from({ length: count - 1 }, (_, i) =>
-        ({ text: `x__stack_chk_guard@${i}` })), { text: '__stack_chk_fail' }]));
-    const comment = (size) =>
-        of(elf_file({ sections: [{ name: '.comment', type: 1, bytes: Buffer.alloc(size, 'a\0') }] }));
-    const held = { type: 2, segments: [{ type: 0x6474e552, bytes: Buffer.alloc(16) }] };
-    const table_of = (count) => ({ name: '.rel', type: 9, flags: 2, bytes: Buffer.alloc(16 * count) });
-    const of_relocations = (count) => of(elf_file({ ...held, sections: [table_of(count)] })),
-        of_tables = (count) => of(elf_file({ ...held, sections: Array(count).fill(table_of(0)) }));
-    for (const [fact, read, most, known] of [
-        ['interpreter', (size) => of_segments({ type: 3, bytes: Buffer.alloc(size + 1).fill('a', 0, size) }), 4095,
-            'a'.repeat(4095)],
-        ['build_id', (size) => of_notes(note('GNU', 3, Buffer.alloc(size, 171))), 64, 'ab'.repeat(64)],
-        ['build_id', (count) => of_notes(repeat(count, other), id), 65534, '69642e2e'],
-        ['control_flow', (size) => of_notes(marks(size)), 65536, ['IBT']],
-        ['pie', (count) => of_segments({ type: 2, bytes: repeat(count, longs(21, 1)) }), 4096, true],
-        ['compilers', comment, 65536, ['a']], ['canary', canaries, 64, true],
-        ['relro', of_relocations, 1 << 22, 'full'], ['relro', of_tables, 4096, 'full'],
-    ]) {
-        const [last, past] = [most, most + 1].map(read);
-        assert.deepEqual([last[fact], last.unknown.includes(fact)], [known, false], fact);
-        assert.deepEqual([past[fact], past.unknown.includes(fact)], [null, true], fact);
-    }
-}
-
-// Of versions a number is read in all, also where each of many libraries has all of them.
-async function check_versions(Elf) {
-    const [{ file }, { versions }] = await Promise.all([import('./file.js'), import('./dynamic.js')]);
-    const libraries = Array.from({ length: 100 }, (_, i) =>
-        packed([1, 2], [0xffff, 2], [1, 4], [1600 - 16 * i, 4], [16, 4]));
-    const names = Array.from({ length: 5000 }, () => packed([0, 8], [1, 4], [16, 4])),
-        bytes = Buffer.concat([...libraries, ...names, Buffer.from('\0a\0')]);
-    file.elf = Elf.parse(dynamic_file(bytes, [[0x6ffffffe, 0x400000], [0x6fffffff, 100],
-        [5, 0x400000 + bytes.length - 3], [10, 3], [0, 0]]));
-    const [[name, all], ...others] = versions();
-    assert.deepEqual([name, others], ['a', []]);
-    assert.ok(all.length > 4000 && all.length <= 4096, `${all.length} versions`);
-}
-
-// Of a thread only the registers that are wanted are read: a core may have very many threads.
-async function check_registers(Elf) {
-    const [{ file }, { registers_of }] = await Promise.all([import('./file.js'), import('./core.js')]), read = [];
-    file.elf = Elf.parse(noted_file([note('CORE', 1, Buffer.alloc(336))]));
-    file.elf.number = (at) => { read.push(at); return 7n; };
-    const found = registers_of({ note: { desc_range: { offset: 64n, size: 336n } } }, (name) => name === 'rip');
-    assert.deepEqual([found, read], [[['rip', 7n]], [64n + 112n + 8n * 16n]]);
-}
-
-// Of names that overlap in a damaged file, here 200,000 of 1,000 signs, only some are kept.
-async function check_names(Elf) {
-    const [{ file }, resolve] = await Promise.all([import('./file.js'), import('./resolve.js')]), count = 200000;
-    setFlagsFromString('--expose-gc');
-    const collect = runInNewContext('gc'), used = () => { collect(); return process.memoryUsage().heapUsed; };
-    const named = symbol({ name: 1, info: 2, shndx: 1 });
-    file.elf = Elf.parse(elf_file({ sections: [
-        { name: '.symtab', type: 2, link: 2, entsize: 24, bytes: Buffer.alloc(count * named.length, named) },
-        { name: '.strtab', type: 3, bytes: Buffer.from(`\0${'n'.repeat(1000)}\0`) }] }));
-    const before = used();
-    for (let times = 0; times < 2; times++) {
-        let index = 0, signs = 0;
-        for (const item of resolve.named_symbols(1)) signs += resolve.name_of_symbol(1, index++, item).length;
-        assert.equal(signs, 1000 * count);
-    }
-    const kept = used() - before;
-    assert.ok(kept < 1.4e8, `${kept} bytes are kept`);
-}
-
-// Slots that calls go through and that relocations write are held by PT_GNU_RELRO, or are not known.
-function check_slots(of) {
-    const held = { type: 0x6474e552, vaddr: 0x1000, bytes: Buffer.alloc(16) };
-    const file = ({ machine, type = 37, offset = 0x1008, flags = 2, segments = [], ...given }) =>
-        of(elf_file({ type: 2, machine, segments: [held, ...segments],
-            sections: [{ ...relocations({ offset, type }), flags }], ...given }));
-    const known = (given) => {
-        const { relro, unknown } = file(given);
-        return unknown.includes('relro') ? 'unknown' : relro;
-    };
-    for (const [wanted, given] of [['full', {}], ['full', { offset: 0x1000 }], ['partial', { offset: 0x1009 }],
-        ['partial', { offset: 0xfff }], ['full', { offset: 0, type: 6 }], ['full', { offset: 0, flags: 0 }],
-        ['unknown', { machine: 8 }], ['unknown', { sections: [] }],
-        ['unknown', { segments: [{ type: 3, bytes: Buffer.from('/ld\0') }] }],
-        ['partial', { segments: [{ type: 0x6474e552, bytes: Buffer.alloc(16) }] }]])
-        assert.equal(known(given), wanted, JSON.stringify(given));
-    // (the numbers of the machines' psABIs)
-    for (const [machine, own] of
-        [[3, 42], [21, 248], [22, 61], [40, 160], [43, 249], [183, 1032], [243, 58], [258, 12]]) {
-        const found = [own, own + 1].map((type) => known({ machine, type, offset: 0 }));
-        assert.deepEqual(found, ['partial', 'full'], `${machine}`);
-    }
-}
-
-// What each entry, flag, name and note says alone, by the numbers of the standard.
-function check_made_facts(of) {
-    const with_entry = (...entry) => of(elf_file({ type: 3, segments: [{ type: 3, bytes: Buffer.from('/ld\0') },
-        { type: 2, bytes: longs(...entry) }] }));
-    for (const [tag, value, kind, is_now] of [[21, 0, 'program', false], [0x6ffffffb, 0x8000000, 'program', false],
-        [24, 0, 'library', true], [30, 8, 'library', true], [0x6ffffffb, 1, 'library', true],
-        [30, 0xfff7, 'library', false], [0x6ffffffb, 0xf7fffffe, 'library', false]]) {
-        const found = with_entry(tag, value);
-        assert.deepEqual([found.kind, found.pie, found.bind_now], [kind, kind === 'program', is_now]);
-    }
-    const canaries = ['fail', 'fail_local', 'guard', 'fail@GLIBC_2.4', 'guard@@X'],
-        others = ['failed', 'fail_', 'x@fail'];
-    const with_name = (end) => symbols_file([{ text: 'main' }, { text: `__stack_chk_${end}` }]);
-    assert.deepEqual([...canaries, ...others].map((end) => of(with_name(end)).canary),
-        [...canaries.map(() => true), ...others.map(() => false)]);
-    const file = with_name('fail_'), size_of_names = Number(file.readBigUInt64LE(0x28)) + 2 * 64 + 0x20;
-    const { canary, unknown, cut } = of(patched(file, [size_of_names, 1n << 40n]));
-    assert.deepEqual([canary, unknown, cut], [null, ['canary'], true]);
-    const stacks = (...all) => all.map((flags) => ({ type: 0x6474e551, flags, bytes: Buffer.alloc(0) }));
-    assert.deepEqual([[6], [7, 6], [6, 7], []].map((flags) => of(elf_file({ type: 2, segments: stacks(...flags) })).nx),
-        [true, false, false, false]);
-    const [whole, part] = [undefined, -1].map((end) =>
-        of(elf_file({ type: 2, segments: [{ type: 2, bytes: longs(1, 2) }] }).subarray(0, end)));
-    assert.deepEqual([whole.kind, whole.unknown[0], part.kind, part.needed, part.unknown.includes('needed')],
-        ['program', 'needed', 'program', null, true]);
-    const { kind, nx, pie, bind_now } = of(elf_file({ type: 0xfe00, segments: stacks(6) }));
-    assert.deepEqual([kind, nx, pie, bind_now], ['other', null, null, null]);
-    const marks = packed([0xc0008002, 4], [4, 4], [1, 8], [0xc0000002, 4], [4, 4], [2, 8]);
-    const notes = [note('GNX', 3, marks), note('x'.repeat(1 << 20), 3, marks), note('GNU', 3, Buffer.from('id..')),
-        note('GNU', 5, marks)];
-    const noted = of(noted_file(notes, { type: 2 }));
-    assert.deepEqual([noted.build_id, noted.control_flow], ['69642e2e', ['SHSTK']]);
-    const debug = elf_file({ type: 2, sections: [{ name: '.text', type: 8, flags: 6, bytes: marks }],
-        segments: [{ bytes: marks }] });
-    const of_debug = of(patched(debug, [64 + 0x20, 1n << 40n])); // (the size of its segment)
-    assert.deepEqual([of_debug.kind, of_debug.cut], ['debug file', false]);
-}
-
-// Cells that a spreadsheet would run as formulas if it splits lines at commas or semicolons, and unseen characters.
-function check_csv() {
-    const cells = [
-        ['=1+1', `"'=1+1"`], ['+1', `"'+1"`], ['-1+1', `"'-1+1"`], ['@a', `"'@a"`], ["'a", `"''a"`], [' =1', `"' =1"`],
-        ['\uff1d1', `"'\uff1d1"`], ['1;=1+1', `"1;'=1+1"`], ['1; -1', `"1;' -1"`], ['1;"@a', `"1;'""@a"`],
-        ['a,=1', `"a,'=1"`], ['a;,@b', `"a;,'@b"`], ['-0x10', '-0x10'], [';-0x10', `";'-0x10"`], ['a;b', '"a;b"'],
-        ['a-b=c', 'a-b=c'], ['a,"b"', '"a,""b"""'], ['a\\x1b', 'a\\x5cx1b'],
-        ['\x1b[1m', '\\x1b[1m'], ['\t=1\r\n', '\\x09=1\\x0d\\x0a'],
-        ['a\u202eb\u2066', 'a\\xe2\\x80\\xaeb\\xe2\\x81\\xa6'],
-        ['\u200f\udce9\u0085', '\\xe2\\x80\\x8f\\xe9\\xc2\\x85'], ['\u00e9t\u00e9', '\u00e9t\u00e9'],
-    ];
-    // (as a spreadsheet splits lines at commas, at semicolons, at both, or at tabs)
-    const split = (line, at) => [...line.matchAll(new RegExp(`(?:^|[${at}])(?:"((?:[^"]|"")*)"|([^${at}]*))`, 'g'))];
-    for (const [text, cell] of cells) {
-        const line = csv_line([text, '0']);
-        assert.equal(line, `${cell},0\r\n`);
-        for (const [, inside, plain] of [',', ';', ',;', '\t'].flatMap((at) => split(line, at)))
-            assert.doesNotMatch(inside ?? plain, /^[ "]*([=+@\t\r\uff1d]|-(?!0x10\b))/, line);
-    }
-}
-
-// What a search skips, without reading it, holds no word of the text that c++filt makes of it.
-function check_may_hold() {
-    const rows = readFileSync(new URL('../../checks/files/mangled', import.meta.url), 'utf8').trim().split('\n')
-        .filter((row) => demangled(row.split('\t')[0]));
-    assert.ok(rows.length > 100, `${rows.length} names`);
-    for (const [name, text] of rows.map((row) => row.split('\t'))) assert.equal(demangled(name), text);
-    for (const [name, text] of rows.map((row) => row.toLowerCase().split('\t')))
-        for (const [word] of text.matchAll(/[\w:]+/g)) assert.ok(may_hold(word)(name), `${word} in ${name}`);
-    assert.deepEqual([may_hold('std::vector')('_z3foov'), may_hold('foo(')('_z3foov')], [false, true]);
-    // (no compiler makes such names: c++filt leaves some of them alone, too, and has its own ways to write others)
-    for (const name of ['_Z1fNK1bE', '_ZTSNKclE', '_ZTVNV1a1bE', '_ZNSsE', '_ZN1a1bENS_E', '_Z1fIiEvNT_E',
-        '_Z1fFvvENS_1bE', '_ZN1a1bENS_D2E', '_ZN1aC1IiEIjEERKT_', '_ZNKrS1a1bEv', '_ZGVi', '_ZplKK1aS1_', '_Z1fROOi',
-        '_Z1fPFFivEivE', '_Z1fv.a.01_'])
-        assert.equal(demangled(name), undefined, name);
-    const { user } = process.cpuUsage(), long = `_Z1fv${'.a'.repeat(508)}!`; // (which is left alone)
-    for (let i = 0; i < 500; i++) assert.equal(demangled(long), undefined);
-    assert.ok(process.cpuUsage().user - user < 5e5, `${process.cpuUsage().user - user} microseconds`);
 }
 
 // The names in goblin.h of the fields that have other names in goblin.js.
@@ -305,16 +110,16 @@ class Dump {
         this.ask('goblin_string_closed', () => strtab.get_closed_bytes(offset), bytes);
         const own = this.ask('goblin_string', () => strtab.get_bytes(offset), bytes) ?? new Uint8Array();
         for (const name of [own, own.subarray(0, own.length / 2)]) {
-            this.ask('goblin_string_is', () => strtab.is(offset, name) || undefined, () => '');
-            this.ask('goblin_string_starts', () => strtab.starts_with(offset, name) || undefined, () => '');
+            this.ask('goblin_string_is', () => strtab.is_at(offset, name) || undefined, () => '');
+            this.ask('goblin_string_starts', () => strtab.starts_at(offset, name) || undefined, () => '');
         }
         return text;
     }
 
-    // Adds the line of a call that writes into a copy of the file: a sum of its bytes, or none if it returns false.
+    // Adds the line of a call that writes into a copy of the file: a sum of its bytes.
     write(what, put) {
         const copy = new Uint8Array(this.content);
-        this.ask(what, () => (put(this.elf.writer(copy)) === false ? undefined : copy), (written) =>
+        this.ask(what, () => { put(this.elf.writer(copy)); return copy; }, (written) =>
             ` ${hex(written.reduce((sum, byte) => Math.imul(sum ^ byte, 0x1000193), 0x811c9dc5) >>> 0)}`);
     }
 
@@ -329,7 +134,7 @@ class Dump {
         const firsts = name === undefined ? [] : [0, index + 1];
         this.ask_each('goblin_symbol_by_name', firsts, (first) => symtab.symbol_by_name(name, first), found);
         const ends = [symbol.st_value, BigInt.asUintN(64, symbol.st_value + symbol.st_size)];
-        this.ask_each('goblin_symbol_by_address', ends, (address) => symtab.by_address(address));
+        this.ask_each('goblin_symbol_by_address', ends, (address) => symtab.symbol_by_address(address)?.index);
         if (index >= FEW) return;
         const changed = { ...symbol, st_value: symbol.st_value ^ 1n, st_size: symbol.st_size ^ any_high(index) };
         this.write('goblin_put_symbol', (writer) => writer.put_symbol(section, index, changed));
@@ -434,7 +239,7 @@ class Dump {
 
     dynamic(elf) {
         const put = (entries) => entries.map(fields).join('');
-        if (!this.ask('goblin_dynamic_entries', () => elf.dynamic(), put)) return;
+        if (!this.ask('goblin_dynamic_entries', () => elf.dynamic_section(), put)) return;
         const strings = this.ask('goblin_dynamic_strings', () => elf.dynamic_strings(), ({ range }) => fields(range));
         if (!strings) return;
         for (const tag of ['NULL', 'NEEDED', 'STRTAB', 'SONAME', 'FLAGS_1'].map((name) => goblin[`DT_${name}`])) {
@@ -531,9 +336,6 @@ await goblin.default();
 check_module();
 check_layout();
 check_kinds();
-check_csv();
-check_may_hold();
-await check_facts();
 const folder = mkdtempSync(join(tmpdir(), 'goblin-'));
 try {
     let lines = compare(files).length, refusals = 0, copies = 0;

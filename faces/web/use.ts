@@ -22,24 +22,25 @@ export async function main(bytes: ArrayBuffer, view: Uint16Array): Promise<strin
         JSON.stringify({ ...loaded[0] }, json));
     const whole: Elf = elf.whole(), writer: Writer = whole.writer(new Uint8Array(bytes)),
         first: bigint = elf.number_in(loaded[0], 0, 4);
-    const is_written: boolean =
-        writer.put_section_header(1, { ...loaded[0], sh_flags: loaded[0].sh_flags | SHF_ALLOC });
-    lines.push(`${is_written} ${first} ${elf.address_to_offset(elf.header.e_entry)} `
+    writer.put_section_header(1, { ...loaded[0], sh_flags: loaded[0].sh_flags | SHF_ALLOC });
+    lines.push(`${first} ${elf.address_to_offset(elf.header.e_entry)} `
         + `${elf.section_by_name('.text', 1)?.index}`);
     const symbols: Symtab | undefined = elf.syms(), addresses: AddressMap | undefined = symbols?.address_map();
-    lines.push(`${addresses?.at(elf.header.e_entry)} ${addresses?.symbol(0)?.st_value}`);
+    lines.push(`${addresses?.symbol_by_address(elf.header.e_entry)?.index}`,
+        `${symbols?.symbol_by_address(0)?.symbol.st_value}`);
     for (const symbol of symbols ?? []) lines.push(`${symbols?.name(symbol)} ${symbol.st_value}`);
     for (const [section, relocs] of elf.shdr_relocs())
-        lines.push(`${section.sh_info} ${relocs.at(-1)?.r_addend ?? 0n}`);
+        lines.push(`${section + 1} ${relocs.at(-1)?.r_addend ?? 0n}`);
     const id: Uint8Array | undefined = elf.build_id();
     for (const { name, name_bytes, desc } of elf.iter_note_headers())
         lines.push(`${name ?? name_bytes} ${desc.length} ${id?.length}`);
     for (const section of sections) lines.push(`${elf.strtab(elf.linked_section(section)).get(1)}`);
-    const needed: Dyn[] = elf.dynamic().filter(({ d_tag }) => d_tag === DT_NEEDED),
-        soname: bigint | undefined = elf.dynamic_value(DT_SONAME);
-    lines.push(`${elf.dynamic_strings().get(soname ?? 0n)} ${needed[0]?.d_val ?? 0n}`);
+    const needed: Dyn[] = elf.dynamic_section().filter(({ d_tag }) => d_tag === DT_NEEDED),
+        soname: bigint | undefined = elf.dynamic_value(DT_SONAME),
+        libraries: string[] = [...elf.libraries(), ...elf.rpaths(), elf.soname() ?? elf.interpreter() ?? ''];
+    lines.push(`${elf.dynamic_strings().get(soname ?? 0n)} ${needed[0]?.d_val ?? 0n}`, ...libraries);
     const strtab = elf.shdr_strtab(), texts: (Uint8Array | undefined)[] = strtab.get_all_bytes([0, 1n]),
-        is_same: boolean = strtab.is(1, '.text') || strtab.starts_with(1, new Uint8Array(bytes));
+        is_same: boolean = strtab.is_at(1, '.text') || strtab.starts_at(1, new Uint8Array(bytes));
     lines.push(`${is_same} ${strtab.get_closed_bytes(1) ?? texts[0]}`);
     try {
         elf.number(0n, 4);

@@ -2,14 +2,13 @@
 --
 -- No bit of a mask is set exactly if no lane is (`no_bits_Decide`). Runs that cover the text, which may overlap, decide
 -- whether it is alike (`ends_are`, `quarters_are`).
-use Rattle.goblin_base.proofs.Common.{◌≡◌, ℕ, ◌+◌, ◌-◌, ◌%◌, ◌^◌, ◌<◌, ◌≤◌, ◌==◌, ◌&&◌, eqb, cond, Bool, true, false}
-use Rattle.goblin_base.proofs.Common.{not, List, [], ◌∷◌, map, take, length, get_or, replicate, refl, sym, ap, ◌∙◌}
-use Rattle.goblin_base.proofs.Common.{arith, suc, ⊎_elim, cases_lt, eq-eqb, eqb-true, false≢true, mask_l-mod}
+use Rattle.goblin_base.proofs.Common.{common_steps, ◌≡◌, ℕ, ◌+◌, ◌-◌, ◌%◌, ◌^◌, ◌<◌, ◌≤◌, ◌==◌, ◌&&◌, eqb, cond, Bool}
+use Rattle.goblin_base.proofs.Common.{true, false, not, List, [], ◌∷◌, map, take, length, get_or, replicate, refl, sym}
+use Rattle.goblin_base.proofs.Common.{ap, ◌∙◌, arith, suc, ⊎_elim, cases_lt, eq-eqb, eqb-true, false≢true, mask_l-mod}
 use Rattle.goblin_base.proofs.Common.{bit_mask_l, get_or-chunk, length-chunk, list_any_at, list_any_none, get_or-take}
-use Rattle.goblin_base.proofs.Common.{length-take-le, bytes_eq, and_parts, and_from, same_from_decides, not-true}
-use Rattle.goblin_base.proofs.Common.{not_from_false, false_from_ne_true, both_ways, length-take, tops_compared, w8}
-use Rattle.goblin_base.proofs.Common.{drop, get_or-drop, bit_or, ◌||◌, or_parts, zero, get_or-zip2, length-zip2}
-use Rattle.goblin_base.proofs.Common.{not-false, bytes_eq-Decides, Decides, chunk, top, IsAlike, is_apart}
+use Rattle.goblin_base.proofs.Common.{length-take-le, bytes_eq, and_parts, and_from, tops_compared, w8, drop, bit_or}
+use Rattle.goblin_base.proofs.Common.{◌||◌, or_parts, zero, get_or-zip2, length-zip2, not-false, bytes_eq-Decides}
+use Rattle.goblin_base.proofs.Common.{Decides, chunk, top, IsAlike, is_apart}
 use Rattle.std.proofs.lemmas.Grind.{get_or_default_zero, same_number_lists}
 use lib.Lanes.{mask_l, zip2}
 
@@ -43,10 +42,7 @@ compared_Decides t us vs f g i n few long as_long here there =
 
 -- the lanes of two comparisons, one of which is with the delimiter, are those of one that tests either
 either : (x y : Bool) → bit_or (cond x 255 0) (cond y 255 0) ≡ cond (x || y) 255 0
-either true true = refl
-either true false = refl
-either false true = refl
-either false false = refl
+either x y = grind arith
 
 either_lane : (n d : ℕ) (us vs : List ℕ) → length us ≡ n → length vs ≡ n
     → zip2 bit_or (zip2 (λ a b. cond (not (eqb a b)) 255 0) us vs)
@@ -57,10 +53,7 @@ either_lane n d [] (v ∷ vs) e e' = absurd (omega (arith, e, e'))
 either_lane n d (u ∷ us) [] e e' = absurd (omega (arith, e, e'))
 either_lane zero d (u ∷ us) (v ∷ vs) e e' = absurd (omega (arith, e))
 either_lane (suc n) d (u ∷ us) (v ∷ vs) e e' =
-    let rest = either_lane n d us vs (omega (arith, e)) (omega (arith, e')) in
-    ap (λ x. x ∷ zip2 bit_or (zip2 (λ a b. cond (not (eqb a b)) 255 0) us vs)
-    (zip2 (λ a b. cond (eqb a b) 255 0) vs (replicate n d))) (either (not (eqb u v)) (eqb v d))
-    ∙ ap (λ xs. cond (not (eqb u v) || eqb v d) 255 0 ∷ xs) rest
+    grind (arith, either_lane n d us vs (omega (arith, e)) (omega (arith, e')))
 
 -- so does one mask of both comparisons of one load of the bytes and of the text
 pub no_bits_Decide : (d n i : ℕ) (bytes text : List ℕ) → n ≤ 64 → i + n ≤ length bytes → i + n ≤ length text
@@ -85,6 +78,8 @@ no_bits_Decide d n i bytes text few room as_room =
           ap (λ x. x || eqb (get_or text k 0) d) (ap not (eq-eqb _ _ (alike k le l).0)) ∙ (alike k le l).1)),
     )
 
+ruleset compared_lists = (length-take-le, bytes_eq-Decides, get_or-take, same_number_lists, get_or_default_zero)
+
 -- what decides whether each byte of a text is alike decides whether the bytes begin with it, and it doesn't contain the
 -- delimiter
 whole_is : (r : Bool) (d : ℕ) (bytes text : List ℕ)
@@ -92,23 +87,7 @@ whole_is : (r : Bool) (d : ℕ) (bytes text : List ℕ)
     → r ≡ (bytes_eq (take (length text) bytes) text && is_apart d text)
 unfolding IsAlike is_apart
 whole_is r d bytes text room covered =
-    let size = length-take-le (length text) bytes room in
-    let begins : Decides (bytes_eq (take (length text) bytes) text && is_apart d text)
-    (IsAlike d bytes text 0 (length text)) = (
-      (λ t k low l.
-          let both = and_parts _ _ t in
-          let same = (bytes_eq-Decides (take (length text) bytes) text).0 both.0 in (
-            sym (get_or-take (length text) bytes k 0 l) ∙ ap (λ xs. get_or xs k 0) same,
-            false_from_ne_true _ (λ at. both_ways _ (not-true _ both.1) (list_any_at (λ b. b == d) text k 0 l at)),
-          )),
-      (λ alike. and_from _ _
-          ((bytes_eq-Decides (take (length text) bytes) text).1 (same_number_lists _ _ size (λ k l.
-          get_or-take (length text) bytes k 0 (omega (arith, size, l))
-          ∙ (alike k (omega arith) (omega (arith, size, l))).0)))
-          (not_from_false _ (list_any_none (λ b. b == d) text (λ k e l.
-          ap (λ x. eqb x d) (get_or_default_zero text k e l) ∙ (alike k (omega arith) l).1)))),
-    ) in
-    same_from_decides _ _ covered begins
+    grind (arith, compared_lists, list_any_at, list_any_none)
 
 -- so do the first and last bytes of a text, if they cover it
 pub ends_are : (r s : Bool) (d n last : ℕ) (bytes text : List ℕ)
@@ -161,18 +140,8 @@ quarters_are p q r s d n last step bytes text inner few cover whole room second 
 pub first_differs : (bytes text : List ℕ) (o : ℕ)
     → 0 < length text → (get_or text 0 0 == get_or bytes o 0) ≡ false
     → bytes_eq (take (length text) (drop o bytes)) text ≡ false
-first_differs bytes text o some differ =
-    false_from_ne_true _ (λ t.
-    let same = (bytes_eq-Decides (take (length text) (drop o bytes)) text).0 t in
-    let place : o + 0 ≡ o = omega arith in
-    let first : get_or text 0 0 ≡ get_or bytes o 0 =
-    sym (ap (λ xs. get_or xs 0 0) same) ∙ get_or-take (length text) (drop o bytes) 0 0 some ∙ get_or-drop o bytes 0 0
-    ∙ ap (λ i. get_or bytes i 0) place in
-    both_ways _ differ (eq-eqb _ _ first))
+first_differs bytes text o some differ = grind (arith, common_steps)
 
 -- bytes that are fewer than those of a text don't begin with it
 pub too_few : (bytes text : List ℕ) → length bytes < length text → bytes_eq (take (length text) bytes) text ≡ false
-too_few bytes text few =
-    false_from_ne_true _ (λ t.
-    let same = ap length ((bytes_eq-Decides (take (length text) bytes) text).0 t) in
-    absurd (omega (arith, few, length-take (length text) bytes, same)))
+too_few bytes text few = grind (arith, common_steps)

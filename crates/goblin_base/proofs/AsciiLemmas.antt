@@ -3,13 +3,13 @@
 -- A mask of sixteen bytes has its lowest bit at the first byte that passes a test. A search of all bytes is one of the
 -- next sixteen, and, if none of them passes, one of those after them. So the run that is found ends at the first byte
 -- that is the delimiter or not ASCII; it is ASCII, and it is the whole piece unless a byte that isn't ASCII ends it.
-use Rattle.goblin_base.proofs.Common.{◌≡◌, ℕ, ◌+◌, ◌-◌, ◌%◌, ◌^◌, ◌<◌, ◌≤◌, ◌==◌, eqb, leb, cond, Bool, true, false}
-use Rattle.goblin_base.proofs.Common.{not, ◌||◌, bit_or, List, ◌++◌, map, take, drop, length, get_or, refl, ap, ◌∙◌}
-use Rattle.goblin_base.proofs.Common.{arith, Ok, cond-true, cond-false, eq-eqb, leb-false, or_parts, length-map}
-use Rattle.goblin_base.proofs.Common.{take_rest, prefix_len-append, prefix_len-le-length, fails_before_first}
-use Rattle.goblin_base.proofs.Common.{position_or_len_is, map-map, mask_l-mod, first_set_mask_l, chunk-drop}
-use Rattle.goblin_base.proofs.Common.{length-chunk, is_utf8-from_IsUtf8, position_or_len, prefix_len, IsUtf8, is_utf8}
-use Rattle.goblin_base.proofs.Common.{ends_run, lowest_set, piece, plain, text_or_fault, ◌-◌, subst, chunk, top}
+use Rattle.goblin_base.proofs.Common.{common_steps, ◌≡◌, ℕ, ◌+◌, ◌-◌, ◌%◌, ◌^◌, ◌<◌, ◌≤◌, ◌==◌, eqb, leb, cond, Bool}
+use Rattle.goblin_base.proofs.Common.{true, false, not, ◌||◌, bit_or, List, ◌++◌, map, take, drop, length, get_or, ap}
+use Rattle.goblin_base.proofs.Common.{◌∙◌, arith, Ok, cond-true, cond-false, eq-eqb, or_parts, length-map, take_rest}
+use Rattle.goblin_base.proofs.Common.{prefix_len-append, prefix_len-le-length, fails_before_first, position_or_len_is}
+use Rattle.goblin_base.proofs.Common.{map-map, mask_l-mod, first_set_mask_l, chunk-drop, length-chunk}
+use Rattle.goblin_base.proofs.Common.{is_utf8-from_IsUtf8, position_or_len, prefix_len, IsUtf8, ends_run, lowest_set}
+use Rattle.goblin_base.proofs.Common.{piece, plain, subst, chunk, top}
 use Rattle.std.proofs.lemmas.Bool.{ne_eqb}
 use lib.Lanes.{mask_l}
 use Rattle.goblin_base.proofs.StrtabLemmas.{first_or_length}
@@ -101,12 +101,7 @@ pub ruleset stops = (before_here, first_or_length, take_rest)
 pub delim_is : (n d : ℕ) (v : List ℕ) (mask r : ℕ)
     → length v ≡ n → n ≤ 64 → mask ≡ mask_l (map (λ b. eqb b d) v) → r ≡ lowest_set mask n
     → r ≡ position_or_len (λ b. b == d) v
-delim_is n d v mask r long few marked found =
-    let first : lowest_set (mask_l (map (λ b. eqb b d) v)) n ≡ position_or_len (λ b. b == d) v =
-    first_set_mask_l (λ b. eqb b d) v n long few in
-    found
-    ∙ ap (λ m. lowest_set m n) marked
-    ∙ first
+delim_is n d v mask r long few marked found = grind (arith, first_set_mask_l)
 
 -- the bytes of a run, and the one that ends it
 module _ (d n : ℕ) (bytes : List ℕ) (is : n ≡ position_or_len (ends_run d) bytes) where
@@ -118,10 +113,7 @@ module _ (d n : ℕ) (bytes : List ℕ) (is : n ≡ position_or_len (ends_run d)
   not_delim k l = (or_parts (eqb (get_or bytes k 0) d) (leb 128 (get_or bytes k 0)) (in_run k l)).0
 
   below_128 : (k : ℕ) → k < n → get_or bytes k 0 < 128
-  below_128 k l =
-      let low : leb 128 (get_or bytes k 0) ≡ false =
-      (or_parts (eqb (get_or bytes k 0) d) (leb 128 (get_or bytes k 0)) (in_run k l)).1 in
-      leb-false 128 (get_or bytes k 0) low
+  below_128 k l = grind (arith, common_steps, in_run)
 
   pub run_is_text : IsUtf8 (take n bytes)
   run_is_text =
@@ -132,10 +124,4 @@ module _ (d n : ℕ) (bytes : List ℕ) (is : n ≡ position_or_len (ends_run d)
   pub run_is_plain : (n < length bytes → eqb (get_or bytes n 0) d ≡ true) → plain bytes d 0 ≡ Ok (take n bytes)
   unfolding piece
   run_is_plain ended =
-      let within : n ≤ length bytes = omega (arith, is, prefix_len-le-length (λ b. not (ends_run d b)) bytes) in
-      let first : position_or_len (λ b. b == d) bytes ≡ n =
-      position_or_len_is (λ b. b == d) bytes n 0 within not_delim ended in
-      let whole : piece bytes d 0 ≡ take n bytes = ap (λ k. take k bytes) first in
-      let text : is_utf8 (take n bytes) ≡ true = is_utf8-from_IsUtf8 _ run_is_text in
-      ap (λ p. text_or_fault p (length bytes - 0)) whole
-      ∙ cond-true _ _ _ text
+      grind (arith, prefix_len-le-length, position_or_len_is, not_delim, is_utf8-from_IsUtf8, run_is_text)

@@ -1,9 +1,9 @@
 -- The definitions of `byteorder` say the same as those here.
-use Rattle.goblin_base.proofs.Common.{◌≡◌, ◌<◌, ◌≤◌, ◌+◌, ◌*◌, ◌/◌, ◌%◌, ◌^◌, ◌-◌, ℕ, zero, suc, List, [], ◌∷◌, ◌++◌}
-use Rattle.goblin_base.proofs.Common.{length, reverse, take, drop, slice_index, set, refl, sym, ap, ◌∙◌, arith, pow-suc}
-use Rattle.goblin_base.proofs.Common.{div-div-eq-div-mul, div-one, reverse-append, length-reverse, length-drop}
-use Rattle.goblin_base.proofs.Common.{length-take-le, drop-drop, drop_all, drop_more, set_split}
-use Rattle.std.proofs.lemmas.List.{append_assoc, append-nil}
+use Rattle.goblin_base.proofs.Common.{common_steps, ◌≡◌, ◌<◌, ◌≤◌, ◌+◌, ◌/◌, ◌%◌, ◌^◌, ◌-◌, ℕ, zero, suc, List, [], ◌∷◌}
+use Rattle.goblin_base.proofs.Common.{◌++◌, length, reverse, take, drop, slice_index, set, refl, sym, ap, ◌∙◌, arith}
+use Rattle.goblin_base.proofs.Common.{pow-suc, div-div-eq-div-mul, div-one, length-reverse, length-drop, length-take-le}
+use Rattle.goblin_base.proofs.Common.{drop_more, set_split}
+use Rattle.std.proofs.lemmas.List.{append_assoc}
 use Rattle.std.specs.Int.{byte_at, bytes_high_first, bytes_low_first}
 use Rattle.byteorder.specs.Endian.{big_from, little_from}
 use Rattle.byteorder.specs.Numbers.{big_from-cons, little_from-cons}
@@ -34,8 +34,7 @@ big_from-is (b ∷ bytes) =
 
 -- the byte of a number at a rank
 byte_at-pow : (k x : ℕ) → byte_at k x ≡ x / 256 ^ k % 256
-byte_at-pow zero x = ap (λ (y : ℕ). y % 256) (sym (div-one x))
-byte_at-pow (suc k) x = refl
+byte_at-pow k x = grind arith
 
 next_power : (k x : ℕ) → x / 256 ^ k / 256 ≡ x / 256 ^ suc k
 next_power k x = div-div-eq-div-mul x (256 ^ k) 256 ∙ ap (λ (p : ℕ). x / p) (sym (pow-suc 256 k))
@@ -48,18 +47,12 @@ bytes_low_first-is (suc k) i x = rw (byte_at-pow i x, next_power i x, bytes_low_
 -- the digits of a number, and the next one above them
 low_bytes-last : (k x : ℕ) → low_bytes (suc k) x ≡ low_bytes k x ++ x / 256 ^ k % 256 ∷ []
 low_bytes-last zero x = rw (div-one x) refl
-low_bytes-last (suc k) x =
-    let rest = low_bytes-last k (x / 256) in
-    let e = div-div-eq-div-mul x 256 (256 ^ k) in
-    let p : 256 * 256 ^ k ≡ 256 ^ suc k = omega (arith, pow-suc 256 k) in
-    ap (λ ds. x % 256 ∷ ds) (rest ∙ ap (λ d. low_bytes k (x / 256) ++ d % 256 ∷ []) (e ∙ ap (λ (p : ℕ). x / p) p))
+low_bytes-last (suc k) x = grind (arith, div-div-eq-div-mul, low_bytes-last k (x / 256))
 
 -- the bytes that `BigEndian` writes
 bytes_high_first-is : (k x : ℕ) → bytes_high_first k x ≡ reverse (low_bytes k x)
 bytes_high_first-is zero x = refl
-bytes_high_first-is (suc k) x =
-    let turned = reverse-append (low_bytes k x) (x / 256 ^ k % 256 ∷ []) in
-    rw (byte_at-pow k x, bytes_high_first-is k x, low_bytes-last k x, turned) refl
+bytes_high_first-is (suc k) x = grind (arith, common_steps, low_bytes-last, bytes_high_first-is k x)
 
 -- the slice of the n bytes at an offset
 part : (bytes : List ℕ) (place n : ℕ) → take (place + n - place) (drop place bytes) ≡ take n (drop place bytes)
@@ -73,32 +66,20 @@ pub read_little : (order : Endian) (bytes : List ℕ) (place n : ℕ)
     → order ≡ Little → place + n ≤ length bytes
     → little_from 0 n (take (place + n - place) (drop place bytes)) ≡ number_at order bytes place n
 unfolding number
-read_little order bytes place n is h =
-    let e = length-part bytes place n h in
-    rw (is, part bytes place n)
-    (ap (λ k. little_from 0 k (take n (drop place bytes))) (sym e) ∙ little_from-is (take n (drop place bytes)))
+read_little order bytes place n is h = grind (arith, common_steps, length-part, little_from-is)
 
 -- what `BigEndian` reads at an offset
 pub read_big : (order : Endian) (bytes : List ℕ) (place n : ℕ)
     → order ≡ Big → place + n ≤ length bytes
     → big_from 0 n (take (place + n - place) (drop place bytes)) ≡ number_at order bytes place n
 unfolding number
-read_big order bytes place n is h =
-    let e = length-part bytes place n h in
-    rw (is, part bytes place n)
-    (ap (λ k. big_from 0 k (take n (drop place bytes))) (sym e) ∙ big_from-is (take n (drop place bytes)))
+read_big order bytes place n is h = grind (arith, common_steps, length-part, big_from-is)
 
 -- the bytes after n bytes at an offset were written
 written : (bytes text new : List ℕ) (place n : ℕ)
     → place + n ≤ length bytes → new ≡ text ++ drop n (take (place + n - place) (drop place bytes))
     → put_mid place (place + n - place) bytes new ≡ take place bytes ++ text ++ drop (place + n) bytes
-written bytes text new place n h e =
-    let none : drop n (take (place + n - place) (drop place bytes)) ≡ [] =
-    rw (part bytes place n) (drop_all n (take n (drop place bytes)) (omega (arith, length-part bytes place n h))) in
-    let whole : new ≡ text = e ∙ ap (λ r. text ++ r) none ∙ append-nil text in
-    let width : place + n - place ≡ n = omega arith in
-    rw (whole, width, ← drop-drop n place bytes)
-    (sym (append_assoc (take place bytes) text (drop n (drop place bytes))))
+written bytes text new place n h e = grind (arith, common_steps)
 
 -- what `LittleEndian` writes at an offset
 pub write_little : (order : Endian) (bytes new : List ℕ) (place n x : ℕ)
@@ -106,9 +87,7 @@ pub write_little : (order : Endian) (bytes new : List ℕ) (place n x : ℕ)
     → new ≡ bytes_low_first 0 n x ++ drop n (take (place + n - place) (drop place bytes))
     → put_mid place (place + n - place) bytes new ≡ with_number order bytes place n x
 unfolding spelled with_number
-write_little order bytes new place n x is h e =
-    let same : bytes_low_first 0 n x ≡ low_bytes n x = bytes_low_first-is n 0 x ∙ ap (low_bytes n) (div-one x) in
-    rw is (written bytes (low_bytes n x) new place n h (rw same at e))
+write_little order bytes new place n x is h e = grind (arith, bytes_low_first-is, written)
 
 -- what `BigEndian` writes at an offset
 pub write_big : (order : Endian) (bytes new : List ℕ) (place n x : ℕ)
@@ -116,8 +95,7 @@ pub write_big : (order : Endian) (bytes new : List ℕ) (place n x : ℕ)
     → new ≡ bytes_high_first n x ++ drop n (take (place + n - place) (drop place bytes))
     → put_mid place (place + n - place) bytes new ≡ with_number order bytes place n x
 unfolding spelled with_number
-write_big order bytes new place n x is h e =
-    rw is (written bytes (reverse (low_bytes n x)) new place n h (rw (bytes_high_first-is n x) at e))
+write_big order bytes new place n x is h e = grind (arith, written, bytes_high_first-is)
 
 -- the byte at an offset
 pub read_one : (order : Endian) (bytes : List ℕ) (place : ℕ)

@@ -1,6 +1,6 @@
 -- Halving a number takes one binary digit off it.
-use Rattle.goblin_base.proofs.Common.{pow-suc, ◌*◌, ◌^◌, ◌↔◌, ◌≡◌, ℕ, zero, suc, ◌+◌, ◌/◌, ◌≤◌, ◌<◌, refl, sym, ap}
-use Rattle.goblin_base.proofs.Common.{arith, digits_within}
+use Rattle.goblin_base.proofs.Common.{pow-suc, ◌^◌, ◌↔◌, ◌≡◌, ℕ, zero, suc, ◌+◌, ◌/◌, ◌≤◌, ◌<◌, refl, sym, ap, arith}
+use Rattle.goblin_base.proofs.Common.{digits_within}
 use Rattle.goblin_base.specs.Search.{digits}
 
 within_zero : (n : ℕ) → digits_within n 0 ≡ 0
@@ -15,8 +15,7 @@ within_more (suc n) (suc m) (suc k) p q = ap (λ x. x + 1) (within_more n m (suc
 
 pub digits_half : (k : ℕ) → 0 < k → digits k ≡ digits (k / 2) + 1
 unfolding digits
-digits_half zero h = absurd (omega arith)
-digits_half (suc k) h = ap (λ x. x + 1) (within_more k (suc k / 2) (suc k / 2) (omega arith) (omega arith))
+digits_half k h = grind (arith, within_more)
 
 digits-zero : digits 0 ≡ 0
 unfolding digits
@@ -42,8 +41,7 @@ digits_step s t h l = omega (arith, digits_half s h, digits_mono t (s / 2) l)
 
 -- and no more than one less
 pub digits_step_back : (s t : ℕ) → s / 2 ≤ t → digits s ≤ digits t + 1
-digits_step_back zero t l = omega (arith, digits-zero)
-digits_step_back (suc s) t l = omega (arith, digits_half (suc s) (omega arith), digits_mono (suc s / 2) t l)
+digits_step_back s t l = grind (arith, digits_half, digits_mono)
 
 pow_positive : (n : ℕ) → 0 < 2 ^ n
 pow_positive zero = omega arith
@@ -52,15 +50,8 @@ pow_positive (suc n) = omega (arith, pow-suc 2 n, pow_positive n)
 -- k has at most n binary digits exactly if it is below 2 ^ n
 pub digits_count : (k n : ℕ) → (digits k ≤ n) ↔ (k < 2 ^ n)
 digits_count zero n = (λ h. pow_positive n, λ h. omega (arith, digits-zero))
-digits_count (suc k) zero =
-    (λ h. absurd (omega (arith, digits_half (suc k) (omega arith))), λ h. absurd (omega (arith, h)))
-digits_count (suc k) (suc n) =
-    let half = digits_half (suc k) (omega arith) in
-    let deeper = digits_count (suc k / 2) n in
-    let two : 2 ^ suc n ≡ 2 ^ n * 2 = pow-suc 2 n in (
-      λ h. let l = deeper.0 (omega (arith, half)) in omega (arith, two, l),
-      λ h. let l = deeper.1 (omega (arith, two, h)) in omega (arith, half, l),
-    )
+digits_count (suc k) zero = omega (arith, digits_half)
+digits_count (suc k) (suc n) = grind (arith, digits_half, digits_count (suc k / 2) n)
 
 -- a length plus 1 has at most 64 digits
 pub digits_few : (k : ℕ) → k + 1 < 2 ^ 64 → digits (k + 1) ≤ 64

@@ -5,13 +5,12 @@
 -- that doesn't lie in the bytes. A division finds that record: all fit (`all_fit`), or it is the one after those that
 -- fit (`first_without`).
 use Rattle.goblin_base.proofs.Common.{◌≡◌, ◌<◌, ◌≤◌, ◌+◌, ◌*◌, ◌/◌, ◌-◌, ℕ, zero, suc, List, [], ◌∷◌, ◌++◌, length}
-use Rattle.goblin_base.proofs.Common.{take, drop, false, nat_lt, Result, Ok, Err, refl, sym, ap, ◌∙◌, arith}
-use Rattle.goblin_base.proofs.Common.{le-div_iff_mul-le, div-lt_iff_lt-mul, div-mul-le_self, nat_tests, drop-drop}
-use Rattle.goblin_base.proofs.Common.{take_rest, Error, unless_fault, ◌>>=◌, records, map, Option, Some, None}
-use Rattle.goblin_base.proofs.Common.{slice_get, slice_range, range_with_len, result_ok, rows, length-take-le}
+use Rattle.goblin_base.proofs.Common.{take, drop, Result, Ok, Err, refl, sym, ap, ◌∙◌, arith, le-div_iff_mul-le}
+use Rattle.goblin_base.proofs.Common.{nat_tests, drop-drop, take_rest, Error, unless_fault, ◌>>=◌, records, map, Option}
+use Rattle.goblin_base.proofs.Common.{Some, None, slice_get, range_with_len, result_ok, rows, length-take-le}
 use Rattle.goblin_base.proofs.Common.{length-drop, read_within, common_steps}
 use Rattle.goblin_base.specs.Eager.{room_of_each, records_from, records_in}
-use Rattle.goblin_base.specs.RecordLaws.{room_of_fits, fits-room_of, unless_fault-is, unless_fault-err, read_within-ok}
+use Rattle.goblin_base.specs.RecordLaws.{room_of_fits, fits-room_of, read_within-ok}
 use Rattle.goblin_base.specs.Refusal.{buffer_too_short, misplaced, refusal_of}
 use Rattle.goblin_base.specs.Room.{room_of}
 use Rattle.goblin_base.specs.TableLaws.{no_records, records-take, slice, slice-is, first_record}
@@ -27,8 +26,7 @@ use Rattle.goblin_base.specs.declared.scroll.Error.{Error as Misplaced}
 pub length_records : {R : Type 0} (size : ℕ) (read : List ℕ → R) (n : ℕ) (bytes : List ℕ)
     → length (records size read n bytes) ≡ n
 unfolding records
-length_records size read n bytes =
-    length-map-range_with_len (λ i. read (slice_range bytes (i * size) ((i + 1) * size))) 0 n
+length_records size read n bytes = omega (arith, length-map-range_with_len)
 
 get_mapped : {R : Type 0} (f : ℕ → R) (a n i : ℕ) → i < n → slice_get (map f (range_with_len a n)) i ≡ Some (f (a + i))
 get_mapped f a zero i h = absurd (omega arith)
@@ -39,10 +37,7 @@ get_mapped f a (suc n) (suc i) h = get_mapped f (a + 1) n i (omega arith) ∙ ap
 pub get_records : {R : Type 0} (size : ℕ) (read : List ℕ → R) (n : ℕ) (bytes : List ℕ) (i : ℕ)
     → i < n → slice_get (records size read n bytes) i ≡ Some (read (take size (drop (i * size) bytes)))
 unfolding records slice
-get_records size read n bytes i h =
-    get_mapped (λ i. read (slice size bytes i)) 0 n i h
-    ∙ ap (λ (k : ℕ). Some (read (slice size bytes k))) (omega arith)
-    ∙ ap (λ part. Some (read part)) (slice-is size bytes i)
+get_records size read n bytes i h = grind (arith, get_mapped)
 
 pub read_within_fits : {R : Type 0} (size : ℕ) (read : List ℕ → R) (bytes : List ℕ)
     → size ≤ length bytes → read_within size read bytes ≡ Ok (read bytes)
@@ -54,11 +49,7 @@ read_within_fits size read bytes h =
 pub read_field : {R : Type 0} (size : ℕ) (read : List ℕ → R) (bytes : List ℕ) (start : ℕ)
     → start + size ≤ length bytes
     → read_within size read (take (start + size - start) (drop start bytes)) ≡ Ok (read (take size (drop start bytes)))
-read_field size read bytes start h =
-    let width : start + size - start ≡ size = omega arith in
-    let whole : length (take size (drop start bytes)) ≡ size =
-    length-take-le size (drop start bytes) (omega (arith, length-drop start bytes)) in
-    rw width (read_within_fits size read (take size (drop start bytes)) (omega arith))
+read_field size read bytes start h = grind (arith, length-take-le, length-drop, read_within_fits)
 
 pub read_first : {R : Type 0} (size : ℕ) (read : List ℕ → R) (bytes : List ℕ)
     → size ≤ length bytes → read_within size read (take size bytes) ≡ Ok (read (take size bytes))
@@ -66,8 +57,7 @@ read_first size read bytes h = read_within_fits size read (take size bytes) (ome
 
 pub past_records : {R : Type 0} (size : ℕ) (read : List ℕ → R) (n : ℕ) (bytes : List ℕ) (i : ℕ)
     → n ≤ i → slice_get (records size read n bytes) i ≡ None
-past_records size read n bytes i h =
-    slice_get_past (records size read n bytes) i (omega (arith, length_records size read n bytes))
+past_records size read n bytes i h = omega (arith, slice_get_past, length_records)
 
 pub last_record : {R : Type 0} (size : ℕ) (read : List ℕ → R) (n : ℕ) (bytes : List ℕ)
     → records size read (n + 1) bytes ≡ records size read n bytes ++ read (take size (drop (n * size) bytes)) ∷ []
@@ -101,9 +91,7 @@ pub ruleset record_steps =
 one_less : (len place size count i : ℕ) (u : Unit {0})
     → i < count → room_of len place size ≡ Ok u
     → room_of_each len place size (count - i) ≡ room_of_each len (place + size) size (count - (i + 1))
-one_less len place size count i u h room =
-    let e : count - i ≡ suc (count - (i + 1)) = omega arith in
-    rw (e, room) refl
+one_less len place size count i u h room = grind arith
 
 -- Reading `count` records one after another from `offset` on, when `i` of them are read:
 --
@@ -126,11 +114,7 @@ one_more : {R : Type 0} (size : ℕ) (read : List ℕ → R) (bytes : List ℕ) 
     → place ≡ offset + i * size
     → records size read (i + 1) (drop offset bytes)
     ≡ records size read i (drop offset bytes) ++ read (take size (drop place bytes)) ∷ []
-one_more size read bytes offset i place at =
-    let there : drop (i * size) (drop offset bytes) ≡ drop place bytes =
-    drop-drop (i * size) offset bytes ∙ ap (λ (k : ℕ). drop k bytes) (sym at) in
-    last_record size read i (drop offset bytes)
-    ∙ ap (λ (part : List ℕ). records size read i (drop offset bytes) ++ read (take size part) ∷ []) there
+one_more size read bytes offset i place at = grind (arith, drop-drop, last_record)
 
 module _ {R : Type 0} {size : ℕ} {read : List ℕ → R} {bytes : List ℕ} {offset count : ℕ} where
   pub none_read : ReadSoFar size read bytes offset count 0 offset []
@@ -144,24 +128,13 @@ module _ {R : Type 0} {size : ℕ} {read : List ℕ → R} {bytes : List ℕ} {o
       → ReadSoFar size read bytes offset count i place found → s ≡ size → i < count
       → Ok x ≡ read_there size read bytes place
       → ReadSoFar size read bytes offset count (i + 1) (place + s) (found ++ x ∷ [])
-  next_read {i = i} {place = place} {x = x} before same h e =
-      let is = unless_fault-is (room_of (length bytes) place size) x (read (take size (drop place bytes))) e in
-      record {
-        there = let at = before.there in omega arith;
-        left = rw same (sym (one_less (length bytes) place size count i tt h is.0) ∙ before.left);
-        gave = rw (before.gave, is.1) (sym (one_more size read bytes offset i place before.there));
-      }
+  next_read {i = i} {place = place} {x = x} before same h e = grind (arith, one_less, one_more)
 
   pub all_read : {s i place : ℕ} {found : List R} (items : List ℕ)
       → ReadSoFar size read bytes offset count i place found → s ≡ size → i ≡ count → count ≤ length bytes / s
       → records_from size read bytes offset count items ≡ Ok found
   unfolding records_from
-  all_read {i = i} {place = place} items before same all enough =
-      let none : count - i ≡ 0 = omega arith in
-      let each : room_of_each (length bytes) offset size count ≡ Ok tt =
-      sym before.left ∙ ap (room_of_each (length bytes) place size) none in
-      let few : nat_lt (length bytes / size) count ≡ false = rw (← same) (grind (arith, nat_tests)) in
-      rw (few, each, before.gave, all) refl
+  all_read {i = i} {place = place} items before same all enough = grind arith
 
   -- the record at `place` doesn't lie in the bytes
   refused : {s i place : ℕ} {found : List R} {d : Misplaced} (items : List ℕ)
@@ -169,28 +142,19 @@ module _ {R : Type 0} {size : ℕ} {read : List ℕ → R} {bytes : List ℕ} {o
       → room_of (length bytes) place size ≡ Err d
       → records_from size read bytes offset count items ≡ Err (misplaced d)
   unfolding records_from
-  refused {i = i} {d = d} items before same h enough fault =
-      let some : count - i ≡ suc (count - (i + 1)) = omega arith in
-      let each : room_of_each (length bytes) offset size count ≡ Err d = sym before.left ∙ rw (some, fault) refl in
-      let few : nat_lt (length bytes / size) count ≡ false = rw (← same) (grind (arith, nat_tests)) in
-      rw (few, each) refl
+  refused {i = i} {d = d} items before same h enough fault = grind arith
 
   pub no_room : {s i place : ℕ} {found : List R} {e : Error} (items : List ℕ)
       → ReadSoFar size read bytes offset count i place found → s ≡ size → i < count → count ≤ length bytes / s
       → Err e ≡ read_there size read bytes place
       → records_from size read bytes offset count items ≡ Err (refusal_of e)
-  no_room {place = place} {e = e} items before same h enough is =
-      let fault = unless_fault-err (room_of (length bytes) place size) e (read (take size (drop place bytes))) is in
-      refused items before same h enough fault.1 ∙ ap (λ f. Err (refusal_of f)) (sym fault.2)
+  no_room {place = place} {e = e} items before same h enough is = grind (arith, refused)
 
 -- after k records that lie in the bytes the others are tested from there on
 fitting : (len offset size count k : ℕ)
     → k ≤ count → offset + k * size ≤ len
     → room_of_each len offset size count ≡ room_of_each len (offset + k * size) size (count - k)
-fitting len offset size count zero h fits =
-    let there : offset + 0 * size ≡ offset = omega arith in
-    let left : count - 0 ≡ count = omega arith in
-    rw (there, left) refl
+fitting len offset size count zero h fits = grind arith
 fitting len offset size zero (suc k) h fits = absurd (omega arith)
 fitting len offset size (suc count) (suc k) h fits =
     let there : offset + suc k * size ≡ offset + size + k * size = omega arith in
@@ -237,9 +201,7 @@ pub not_too_many : {R : Type 0} (size s : ℕ) (read : List ℕ → R) (bytes : 
     → s ≡ size → count ≤ length bytes / s
     → records_in size read bytes offset count ≡ records_from size read bytes offset count items
 unfolding records_in records_from
-not_too_many size s read bytes offset count items same enough =
-    let few : nat_lt (length bytes / size) count ≡ false = rw (← same) (grind (arith, nat_tests)) in
-    rw few refl
+not_too_many size s read bytes offset count items same enough = grind arith
 
 -- the records of a range depend on that range only
 pub take_same : {R : Type 0} (size : ℕ) (read : List ℕ → R) (n : ℕ) (bytes : List ℕ)

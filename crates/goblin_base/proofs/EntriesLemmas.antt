@@ -3,9 +3,9 @@
 -- A stored place stands for the bytes from it up to one before the next place. A place is added where the last entry
 -- closed, so the entries before it stay the same (`between_push`), and in the walk it is the next entry of the
 -- definition (`walked_text`, `walked_empty`).
-use Rattle.goblin_base.proofs.Common.{◌≡◌, ℕ, zero, suc, ◌+◌, ◌-◌, ◌<◌, ◌≤◌, true, false, take, drop, List, [], ◌∷◌}
-use Rattle.goblin_base.proofs.Common.{◌++◌, length, get_or, refl, sym, ap, subst, ◌∙◌, arith, slice_range, is_utf8}
-use Rattle.goblin_base.proofs.Common.{places_of, text_of, IsRising, is_utf8-from_IsUtf8, IsUtf8-nil, piece_end}
+use Rattle.goblin_base.proofs.Common.{common_steps, ◌≡◌, ℕ, zero, suc, ◌+◌, ◌-◌, ◌<◌, ◌≤◌, true, false, take, drop}
+use Rattle.goblin_base.proofs.Common.{List, [], ◌∷◌, ◌++◌, length, get_or, refl, sym, ap, subst, ◌∙◌, arith}
+use Rattle.goblin_base.proofs.Common.{slice_range, places_of, text_of, IsRising, is_utf8-from_IsUtf8, piece_end}
 use Rattle.goblin_base.proofs.Common.{is_readable, entries_from, entries_between, IsWalkedTo}
 use Rattle.goblin_base.specs.Entries.{next_of, IsText, AreTexts}
 use Rattle.goblin_base.proofs.WalkLemmas.{entries_more_bad, found_more, text_from_readable, entry_of_text}
@@ -27,8 +27,7 @@ module _ (bytes : List ℕ) where
   text_between [] c k h = absurd (omega arith)
   text_between (p ∷ []) c zero h = refl
   text_between (p ∷ q ∷ ps) c zero h = refl
-  text_between (p ∷ ps) c (suc k) h = let e : suc k + 1 ≡ suc (k + 1) = omega arith in
-      text_between ps c k (omega arith) ∙ ap (λ j. slice_range bytes (get_or ps k 0) (get_or (p ∷ ps) j c - 1)) (sym e)
+  text_between (p ∷ ps) c (suc k) h = grind (arith, text_between ps c k (omega arith))
 
   pub is_text_at : (ps : List ℕ) (c k : ℕ)
       → AreTexts bytes ps c → k < length ps → IsText bytes (get_or ps k 0) (get_or ps (k + 1) c)
@@ -43,17 +42,7 @@ module _ (bytes : List ℕ) where
       → entries_between bytes ps c ≡ es → qs ≡ ps → f ≡ get_or qs k 0 → n ≡ get_or qs (k + 1) c → AreTexts bytes ps c
       → k < length es
       → IsText bytes f n × (slice_range bytes f (n - 1) ≡ text_of (get_or es k (0, [])))
-  entry_between ps qs c k f n es v e x y a h =
-      let l : k < length ps = omega (arith, length-between ps c, ap length v) in
-      let from : f ≡ get_or ps k 0 = x ∙ ap (λ l. get_or l k 0) e in
-      let next : n ≡ get_or ps (k + 1) c = y ∙ ap (λ l. get_or l (k + 1) c) e in (
-        subst (λ j. IsText bytes j n) (sym from)
-            (subst (IsText bytes (get_or ps k 0)) (sym next) (is_text_at ps c k a l)),
-        ap (λ j. slice_range bytes j (n - 1)) from
-            ∙ ap (λ j. slice_range bytes (get_or ps k 0) (j - 1)) next
-            ∙ sym (text_between ps c k l)
-            ∙ ap (λ l. text_of (get_or l k (0, []))) v,
-      )
+  entry_between ps qs c k f n es v e x y a h = grind (arith, length-between, is_text_at, text_between)
 
   above_first : (p : ℕ) (ps : List ℕ) (c : ℕ) → AreTexts bytes (p ∷ ps) c → (k : ℕ) → k < length ps → p < get_or ps k 0
   above_first p [] c a k h = absurd (omega arith)
@@ -73,9 +62,7 @@ module _ (bytes : List ℕ) where
   pub between_push : (ps : List ℕ) (q c : ℕ)
       → entries_between bytes (ps ++ q ∷ []) c ≡ entries_between bytes ps q ++ (q, slice_range bytes q (c - 1)) ∷ []
   between_push [] q c = refl
-  between_push (p ∷ ps) q c =
-      ap (λ n. (p, slice_range bytes p (n - 1)) ∷ entries_between bytes (ps ++ q ∷ []) c) (next_of-push ps q c)
-      ∙ ap (λ l. (p, slice_range bytes p (next_of ps q - 1)) ∷ l) (between_push ps q c)
+  between_push (p ∷ ps) q c = grind (arith, between_push ps q c)
 
   pub entries_push : (ps : List ℕ) (q c : ℕ) → AreTexts bytes ps q → IsText bytes q c → AreTexts bytes (ps ++ q ∷ []) c
   entries_push [] q c a e = (e, tt)
@@ -83,8 +70,7 @@ module _ (bytes : List ℕ) where
 
 -- no entries stand at no places
 pub none_between : (bytes ps : List ℕ) (c : ℕ) → length ps ≡ 0 → entries_between bytes ps c ≡ []
-none_between bytes [] c e = refl
-none_between bytes (p ∷ ps) c e = absurd (omega arith)
+none_between bytes ps c e = grind (arith, common_steps)
 
 pub ruleset between = (length-between, places_between, none_between)
 
@@ -94,22 +80,13 @@ module _ (bytes : List ℕ) (d : ℕ) where
       → qs ≡ ps ++ p ∷ [] → IsText bytes p q
       → entries_from bytes d p ≡ (p, slice_range bytes p (q - 1)) ∷ entries_from bytes d q → IsWalkedTo bytes d ps p
       → IsWalkedTo bytes d qs q
-  walked_more ps qs p q e k step w = record {
-    texts = subst (λ l. AreTexts bytes l q) (sym e) (entries_push bytes ps p q w.texts k);
-    found = found_more bytes d _ _ (p, slice_range bytes p (q - 1)) p q
-        (ap (λ l. entries_between bytes l q) e ∙ between_push bytes ps p q) step w.found;
-  }
+  walked_more ps qs p q e k step w = grind (arith, entries_push, found_more, between_push)
 
   empty_range : (p : ℕ) → slice_range bytes p (p + 1 - 1) ≡ []
   empty_range p = let e : p + 1 - 1 - p ≡ 0 = omega arith in ap (λ n. take n (drop p bytes)) e
 
   empty_entry : (p : ℕ) → p < length bytes → IsText bytes p (p + 1)
-  empty_entry p h =
-      record {
-        rising = omega arith;
-        within = omega arith;
-        text = ap is_utf8 (empty_range p) ∙ is_utf8-from_IsUtf8 [] IsUtf8-nil;
-      }
+  empty_entry p h = grind (arith, is_utf8-from_IsUtf8)
 
   -- an entry with the empty text, if the piece isn't readable
   pub walked_empty : (ps qs : List ℕ) (p : ℕ)
@@ -122,12 +99,7 @@ module _ (bytes : List ℕ) (d : ℕ) where
   text_entry : (p end : ℕ)
       → p ≤ end → end ≤ length bytes → end ≡ piece_end bytes d p → is_readable bytes d p ≡ true
       → IsText bytes p (end + 1)
-  text_entry p end l m e r = let s : end ≡ end + 1 - 1 = omega arith in
-      record {
-        rising = omega arith;
-        within = omega arith;
-        text = ap (λ n. is_utf8 (slice_range bytes p n)) (sym s) ∙ text_from_readable bytes d p end e r;
-      }
+  text_entry p end l m e r = grind (arith, text_from_readable)
 
   -- an entry whose text is the whole piece
   pub walked_text : (ps qs : List ℕ) (p end : ℕ)

@@ -1,6 +1,6 @@
 -- Where a byte stands first in a range of bytes: before it none is equal to it.
-use Rattle.goblin_base.proofs.Common.{◌≡◌, ℕ, ◌+◌, ◌-◌, ◌<◌, ◌≤◌, ◌==◌, ◌∙◌, true, false, eqb, List, length, drop}
-use Rattle.goblin_base.proofs.Common.{get_or, sym, ap, arith, get_or-drop, get_or-take, length-drop, length-take-le}
+use Rattle.goblin_base.proofs.Common.{common_steps, ◌≡◌, ℕ, ◌+◌, ◌-◌, ◌<◌, ◌≤◌, ◌==◌, ◌∙◌, true, false, eqb, List}
+use Rattle.goblin_base.proofs.Common.{length, drop, get_or, sym, ap, arith, get_or-drop, get_or-take}
 use Rattle.goblin_base.proofs.Common.{position_or_len_is, position_or_len}
 use Rattle.std.proofs.Common.{slice_range}
 
@@ -12,8 +12,7 @@ get_in_range bytes from to k l = get_or-take (to - from) (drop from bytes) k 0 l
 -- how many bytes a range has
 pub length_of_range : (bytes : List ℕ) (from to : ℕ) → to ≤ length bytes
     → length (slice_range bytes from to) ≡ to - from
-length_of_range bytes from to m =
-    length-take-le (to - from) (drop from bytes) (omega (arith, length-drop from bytes, m))
+length_of_range bytes from to m = grind (arith, common_steps)
 
 -- none of the bytes up to an offset is equal, and the one there is, unless the range ends there
 pub found : (bytes : List ℕ) (d from to at : ℕ)

@@ -1,24 +1,19 @@
 -- The digits of a number in some base.
-use Rattle.goblin_base.proofs.Common.{◌≡◌, ℕ, zero, suc, ◌/◌, ◌%◌, ◌^◌, ◌<◌, ◌≤◌, Bool, false, if◌then◌else◌}
-use Rattle.goblin_base.proofs.Common.{List, [], ◌∷◌, ap, arith, eqb, subst, div-eq_of_lt, mod-lt, pow-suc, eq-eqb}
-use Rattle.goblin_base.proofs.Common.{nat_tests, div_below, digit_glyph, digits, digits_onto, IsAscii}
+use Rattle.goblin_base.proofs.Common.{◌≡◌, ℕ, zero, suc, ◌/◌, ◌%◌, ◌^◌, ◌<◌, ◌≤◌, Bool, false, if◌then◌else◌, List, []}
+use Rattle.goblin_base.proofs.Common.{◌∷◌, arith, eqb, subst, div-eq_of_lt, mod-lt, pow-suc, nat_tests, div_below}
+use Rattle.goblin_base.proofs.Common.{digit_glyph, digits, digits_onto, IsAscii}
 use Rattle.std.proofs.lemmas.Str.Ascii.{IsAscii-cons, IsAscii-nil}
 
 -- a digit before others
 pub digits-more : (base k n : ℕ) (acc : List ℕ)
     → 0 < base → base ≤ n
     → digits_onto (suc k) base false n acc ≡ digits_onto k base false (n / base) (digit_glyph false (n % base) ∷ acc)
-digits-more base k n acc some h =
-    let more : eqb (n / base) 0 ≡ false = grind (arith, nat_tests) in
-    ap (λ b. if b then digit_glyph false (n % base) ∷ acc
-    else digits_onto k base false (n / base) (digit_glyph false (n % base) ∷ acc)) more
+digits-more base k n acc some h = grind arith
 
 -- the last digit
 pub digits-last : (base k n : ℕ) (acc : List ℕ)
     → n < base → digits_onto (suc k) base false n acc ≡ digit_glyph false (n % base) ∷ acc
-digits-last base k n acc h =
-    ap (λ b. if b then digit_glyph false (n % base) ∷ acc
-    else digits_onto k base false (n / base) (digit_glyph false (n % base) ∷ acc)) (eq-eqb _ _ (div-eq_of_lt h))
+digits-last base k n acc h = grind (arith, div-eq_of_lt)
 
 -- the rest of a number has one digit less
 pub shorter : (base n s : ℕ) → 0 < base → n < base ^ (suc s) → n / base < base ^ s

@@ -3,12 +3,11 @@
 -- No bit of a mask of r binary digits is set from r on, and the one before is: so the last marked byte of sixteen is
 -- found by counting leading zeros (`last_is`). A piece begins after the last delimiter: in these bytes if one of them
 -- is it (`start_in`), and otherwise where it begins for the bytes before them (`start_across`).
-use Rattle.goblin_base.proofs.Common.{◌≡◌, ◌≢◌, ℕ, zero, suc, ◌+◌, ◌-◌, ◌*◌, ◌/◌, ◌%◌, ◌^◌, ◌<◌, ◌≤◌, eqb, Bool, true}
-use Rattle.goblin_base.proofs.Common.{false, cond, List, map, length, get_or, refl, sym, ap, subst, ◌∙◌, ⊎_elim, arith}
-use Rattle.goblin_base.proofs.Common.{div-eq_of_lt, div-eq_of_lt-le, pow-le-pow_right, pow-suc, cases_Bool, cases_lt}
-use Rattle.goblin_base.proofs.Common.{eq-eqb, get_or-map, length-map, leading_length, bit_mask_l, get_or-chunk}
-use Rattle.goblin_base.proofs.Common.{length-chunk, mask_l-lt, slice_range, mask_l, piece_start, chunk}
-use Rattle.std.proofs.lemmas.Bool.{ne_eqb}
+use Rattle.goblin_base.proofs.Common.{common_steps, ◌≡◌, ◌≢◌, ℕ, zero, suc, ◌+◌, ◌-◌, ◌*◌, ◌/◌, ◌%◌, ◌^◌, ◌<◌, ◌≤◌, eqb}
+use Rattle.goblin_base.proofs.Common.{Bool, true, false, cond, List, map, length, get_or, refl, sym, ap, subst, ◌∙◌}
+use Rattle.goblin_base.proofs.Common.{⊎_elim, arith, div-eq_of_lt, div-eq_of_lt-le, pow-le-pow_right, pow-suc}
+use Rattle.goblin_base.proofs.Common.{cases_Bool, cases_lt, get_or-map, length-map, leading_length, bit_mask_l}
+use Rattle.goblin_base.proofs.Common.{get_or-chunk, length-chunk, mask_l-lt, slice_range, mask_l, piece_start, chunk}
 use Rattle.std.specs.Int.Count.{count_leading_zeros}
 use Rattle.goblin_base.proofs.FirstLemmas.{get_in_range}
 use Rattle.goblin_base.proofs.PiecesLemmas.{start_after_delim, start_more}
@@ -117,10 +116,7 @@ module _ (bytes : List ℕ) (d : ℕ) where
       → ((k : ℕ) → k < n → get_or part k 0 ≡ get_or bytes (a + k) 0)
       → (0 < piece_start part d n → piece_start bytes d (a + n) ≡ a + piece_start part d n)
       × (piece_start part d n ≡ 0 → piece_start bytes d (a + n) ≡ piece_start bytes d a)
-  start_inside part a zero same =
-      let e : a + 0 ≡ a = omega arith in
-      let none : piece_start part d 0 ≡ 0 = start_at_none part d in
-      (λ l. absurd (omega (arith, none)), λ z. ap (piece_start bytes d) e)
+  start_inside part a zero same = grind (arith, start_at_none)
   start_inside part a (suc n) same =
       let e : a + suc n ≡ suc (a + n) = omega arith in
       let before = start_inside part a n (λ k l. same k (omega arith)) in
@@ -143,15 +139,11 @@ module _ (bytes : List ℕ) (d : ℕ) where
 
   -- by a byte
   pub start_at_delim : (s : ℕ) → 0 < s → get_or bytes (s - 1) 0 ≡ d → piece_start bytes d s ≡ s
-  start_at_delim s l e =
-      let next : s ≡ suc (s - 1) = omega arith in
-      ap (piece_start bytes d) next ∙ start_after_delim bytes d (s - 1) (eq-eqb _ _ e) ∙ sym next
+  start_at_delim s l e = grind (arith, common_steps, start_after_delim)
 
   pub start_before_byte : (s : ℕ)
       → 0 < s → get_or bytes (s - 1) 0 ≢ d → piece_start bytes d s ≡ piece_start bytes d (s - 1)
-  start_before_byte s l n =
-      let next : s ≡ suc (s - 1) = omega arith in
-      ap (piece_start bytes d) next ∙ start_more bytes d (s - 1) (ne_eqb _ _ n)
+  start_before_byte s l n = grind (arith, common_steps, start_more)
 
   pub start_at_zero : (s : ℕ) → s ≡ 0 → piece_start bytes d s ≡ s
   unfolding piece_start

@@ -4,8 +4,8 @@
 -- byte that passes the test (`next_is`). In the mask of the delimiter that is where the piece ends (`next_delim`); in
 -- the mask of the bytes from 128 on it says whether the piece is ASCII up to there (`ascii_more`).
 use Rattle.goblin_base.proofs.Common.{◌≡◌, ℕ, zero, suc, ◌+◌, ◌-◌, ◌/◌, ◌^◌, ◌<◌, ◌≤◌, ◌↔◌, eqb, leb, Bool, true, false}
-use Rattle.goblin_base.proofs.Common.{not, ◌&&◌, List, [], ◌∷◌, map, take, drop, length, get_or, shr-shr, refl, sym, ap}
-use Rattle.goblin_base.proofs.Common.{◌∙◌, ⊎_elim, arith, cases_lt, both_ways, and_parts, and_from, le-leb, leb-true}
+use Rattle.goblin_base.proofs.Common.{not, ◌&&◌, List, [], ◌∷◌, map, take, drop, length, get_or, shr-shr, sym, ap, ◌∙◌}
+use Rattle.goblin_base.proofs.Common.{⊎_elim, arith, cases_lt, both_ways, and_parts, and_from, le-leb, leb-true}
 use Rattle.goblin_base.proofs.Common.{leb-false, drop-drop, drop-map, drop-take, get_or-take, get_or-drop, get_or_past}
 use Rattle.goblin_base.proofs.Common.{length-take, first_set_mask_l, length-chunk, run_in_chunk_le, run_in_chunk_fails}
 use Rattle.goblin_base.proofs.Common.{run_in_chunk_stops, IsUtf8-from_ascii, slice_range, prefix_len, IsUtf8, mask_l}
@@ -19,14 +19,7 @@ half_of m ms = grind arith
 -- a mask shifted down is that of the lanes above
 pub mask_down : (s : ℕ) (ms : List Bool) → mask_l ms / 2 ^ s ≡ mask_l (drop s ms)
 mask_down zero ms = omega arith
-mask_down (suc s) [] =
-    let e : suc s ≡ 1 + s = omega arith in
-    let none : 0 / 2 ^ 1 ≡ 0 = omega arith in
-    ap (λ k. 0 / 2 ^ k) e ∙ sym (shr-shr 0 1 s) ∙ ap (λ m. m / 2 ^ s) none ∙ mask_down s [] ∙ nothing s
-  where
-    nothing : (k : ℕ) → mask_l (drop k []) ≡ mask_l (drop (suc k) [])
-    nothing zero = refl
-    nothing (suc k) = refl
+mask_down (suc s) [] = omega arith
 mask_down (suc s) (m ∷ ms) =
     let e : suc s ≡ 1 + s = omega arith in
     ap (λ k. mask_l (m ∷ ms) / 2 ^ k) e
@@ -81,8 +74,7 @@ module _ (bytes : List ℕ) (d : ℕ) (m : Marks) (at n h : ℕ) (marks : AreMar
   pub no_delim : (from : ℕ)
       → ((k : ℕ) → from ≤ k → k < at → eqb (get_or bytes k 0) d ≡ false) → (k : ℕ) → from ≤ k → k < at + n
       → eqb (get_or bytes k 0) d ≡ false
-  no_delim from none k l r =
-      ⊎_elim (λ (x : k < at). none k l x) (λ (x : at ≤ k). next_delim.fails k x r) (cases_lt k at)
+  no_delim from none k l r = grind (arith, next_delim)
 
   -- the bytes up to there are ASCII if those before the place are, and no byte is marked before the delimiter
   pub ascii_more : (from : ℕ) (so_far : Bool)
@@ -112,14 +104,7 @@ module _ (bytes : List ℕ) (d : ℕ) (m : Marks) (at n h : ℕ) (marks : AreMar
 module _ (bytes : List ℕ) (from to : ℕ) where
   -- bytes below 128 are text
   pub low_is_text : AreAscii bytes from to → IsUtf8 (slice_range bytes from to)
-  low_is_text low = IsUtf8-from_ascii (slice_range bytes from to) (λ i. ⊎_elim
-      (λ (l : i < to - from).
-      let kept = get_or-take (to - from) (drop from bytes) i 0 l in
-      omega (arith, kept, get_or-drop from bytes i 0, low (from + i) (omega arith) (omega arith)))
-      (λ (l : to - from ≤ i).
-      let size = length-take (to - from) (drop from bytes) in
-      omega (arith, get_or_past (slice_range bytes from to) i 0 (omega (arith, size))))
-      (cases_lt i (to - from)))
+  low_is_text low = grind (arith, IsUtf8-from_ascii, get_or-take, get_or-drop, length-take, get_or_past)
 
   -- a piece whose first bytes hold no delimiter ends where the rest of it does
   pub end_later : (d : ℕ)

@@ -1,10 +1,9 @@
 -- Where pieces begin and end.
-use Rattle.goblin_base.proofs.Common.{◌≡◌, ℕ, zero, suc, ◌+◌, ◌-◌, ◌<◌, ◌≤◌, ⊎_elim, Bool, true, false, not, eqb, List}
-use Rattle.goblin_base.proofs.Common.{[], ◌∷◌, length, get_or, take, drop, refl, sym, ap, ◌∙◌, arith, cases_Bool}
-use Rattle.goblin_base.proofs.Common.{cases_lt, both_ways, cond-true, cond-false, get_or-drop, get_or-take, length-drop}
-use Rattle.goblin_base.proofs.Common.{length-take-le, drop_more, prefix_len-le-length, fails_before_first}
-use Rattle.goblin_base.proofs.Common.{passes_at_first, position_or_len_is, slice_range, position_or_len, piece_end}
-use Rattle.goblin_base.proofs.Common.{piece, piece_start}
+use Rattle.goblin_base.proofs.Common.{common_steps, ◌≡◌, ℕ, zero, suc, ◌+◌, ◌-◌, ◌<◌, ◌≤◌, ⊎_elim, Bool, true, false}
+use Rattle.goblin_base.proofs.Common.{not, eqb, List, [], ◌∷◌, length, get_or, take, drop, refl, sym, ap, ◌∙◌, arith}
+use Rattle.goblin_base.proofs.Common.{cases_Bool, cases_lt, both_ways, cond-true, cond-false, get_or-drop, get_or-take}
+use Rattle.goblin_base.proofs.Common.{length-drop, drop_more, prefix_len-le-length, fails_before_first, passes_at_first}
+use Rattle.goblin_base.proofs.Common.{position_or_len_is, slice_range, piece_end, piece, piece_start}
 pub use Rattle.goblin_base.specs.TextLaws.{start_to}
 
 abbrev is_delim : ℕ → ℕ → Bool
@@ -31,9 +30,7 @@ module _ (bytes : List ℕ) (d : ℕ) where
   pub at_end : (o : ℕ)
       → o ≤ length bytes → piece_end bytes d o < length bytes → eqb (get_or bytes (piece_end bytes d o) 0) d ≡ true
   unfolding piece_end
-  at_end o h l =
-      ap (λ x. eqb x d) (sym (get_or-drop o bytes (position_or_len (is_delim d) (drop o bytes)) 0))
-      ∙ passes_at_first (is_delim d) (drop o bytes) 0 (omega (arith, length-drop o bytes))
+  at_end o h l = grind (arith, get_or-drop, passes_at_first, length-drop)
 
   -- these two fix the end
   pub end_is : (o e : ℕ)
@@ -52,17 +49,11 @@ module _ (bytes : List ℕ) (d : ℕ) where
 
   pub piece_is_range : (o : ℕ) → piece bytes d o ≡ slice_range bytes o (piece_end bytes d o)
   unfolding piece piece_end
-  piece_is_range o =
-      let n = position_or_len (is_delim d) (drop o bytes) in
-      let e : n ≡ o + n - o = omega arith in
-      ap (λ x. take x (drop o bytes)) e
+  piece_is_range o = grind arith
 
   pub length-piece : (o : ℕ) → o + length (piece bytes d o) ≡ piece_end bytes d o
   unfolding piece piece_end
-  length-piece o =
-      ap (λ x. o + x)
-      (length-take-le (position_or_len (is_delim d) (drop o bytes)) (drop o bytes)
-      (prefix_len-le-length (λ b. not (is_delim d b)) (drop o bytes)))
+  length-piece o = grind (arith, common_steps)
 
   -- from each offset in a piece on, its rest is the piece
   pub end_same : (o k : ℕ)
@@ -120,11 +111,7 @@ module _ (bytes : List ℕ) (d : ℕ) where
   pub start_of_start : (o : ℕ) → piece_start bytes d (piece_start bytes d o) ≡ piece_start bytes d o
   unfolding piece_start
   start_of_start zero = refl
-  start_of_start (suc o) = ⊎_elim
-      (λ (r : eqb (get_or bytes o 0) d ≡ true). let e = start_after_delim o r in ap (piece_start bytes d) e)
-      (λ (r : eqb (get_or bytes o 0) d ≡ false). let e = start_more o r in
-      ap (piece_start bytes d) e ∙ start_of_start o ∙ sym e)
-      (cases_Bool (eqb (get_or bytes o 0) d))
+  start_of_start (suc o) = grind (arith, start_of_start o)
 
   -- a delimiter stands before the start of a whole piece
   pub delim_before : (o : ℕ) → piece_start bytes d (suc o) ≡ suc o → eqb (get_or bytes o 0) d ≡ true

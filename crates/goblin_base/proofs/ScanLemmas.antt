@@ -1,10 +1,8 @@
 -- An attempt to read a piece as UTF-8: what is known at each byte.
-use Rattle.goblin_base.proofs.Common.{◌≡◌, ℕ, ◌+◌, ◌<◌, ◌≤◌, true, false, eqb, List, [], ◌∷◌, length, get_or, max, refl}
-use Rattle.goblin_base.proofs.Common.{sym, ap, ◌∙◌, subst, ⊎_elim, arith, Some, None, ne_eqb, cases_lt, cases_eq}
-use Rattle.goblin_base.proofs.Common.{both_ways, false_from_ne_true, cond-true, cond-false, IsUtf8-from_is_utf8}
-use Rattle.goblin_base.proofs.Common.{is_utf8-from_IsUtf8, Awaited, awaits_first, after_byte, piece_end, piece}
-use Rattle.goblin_base.proofs.Common.{is_readable, IsDamaged, IsScan, scan_end, Whole, Fault}
-use Rattle.std.proofs.Common.{eq-eqb}
+use Rattle.goblin_base.proofs.Common.{◌≡◌, ℕ, ◌+◌, ◌<◌, ◌≤◌, true, false, eqb, List, ◌∷◌, length, get_or, max, sym, ap}
+use Rattle.goblin_base.proofs.Common.{◌∙◌, subst, ⊎_elim, arith, Some, None, cases_lt, both_ways, false_from_ne_true}
+use Rattle.goblin_base.proofs.Common.{IsUtf8-from_is_utf8, is_utf8-from_IsUtf8, Awaited, awaits_first, after_byte}
+use Rattle.goblin_base.proofs.Common.{piece_end, piece, is_readable, IsDamaged, IsScan, scan_end, Fault}
 use Rattle.goblin_base.proofs.Utf8Lemmas.{Completes, any_bounds, IsUtf8-from_Completes, Completes-from_IsUtf8}
 use Rattle.goblin_base.proofs.Utf8Lemmas.{CompletesFrom, IsInner, Steps, StepsTo, steps}
 use Rattle.goblin_base.proofs.WalkLemmas.{bad_within}
@@ -35,15 +33,7 @@ module _ (bytes : List ℕ) (d : ℕ) where
     pub forth : (q : ℕ) → o ≤ q → q < p → is_readable bytes d q ≡ true → CompletesFrom s (piece bytes d p)
 
   pub scan_starts : (o : ℕ) → o ≤ length bytes → IsScanned o o awaits_first
-  scan_starts o h = record {
-    from = omega arith;
-    within = h;
-    none = λ k p q. absurd (omega arith);
-    inner = record { least = omega arith; most = omega arith };
-    begun = λ _. refl;
-    back = λ v. readable_if_completes o 0x80 0xbf v;
-    forth = λ q l m. absurd (omega arith);
-  }
+  scan_starts o h = grind (arith, readable_if_completes)
 
   piece_at_byte : (p : ℕ)
       → p < length bytes → eqb (get_or bytes p 0) d ≡ false → piece bytes d p ≡ get_or bytes p 0 ∷ piece bytes d (p + 1)
@@ -109,35 +99,7 @@ module _ {bytes : List ℕ} {d o p : ℕ} {s : Awaited} where
   -- at its end the piece is UTF-8 if no byte is missing; otherwise no rest of it is
   pub scan_ends : (p < length bytes → eqb (get_or bytes p 0) d ≡ true) → IsScanned bytes d o p s
       → IsScan bytes d o (scan_end s p)
-  scan_ends there h =
-      let from = h.from in
-      let within = h.within in
-      let same = end_is bytes d o p h.from h.within h.none there in
-      let last : piece_end bytes d p ≡ p =
-      end_is bytes d p p (omega arith) within (λ k x y. absurd (omega arith)) there in
-      let empty = piece_at_end bytes d p last in
-      ⊎_elim
-      (λ (e : s.more ≡ 0). subst (IsScan bytes d o) (sym (cond-true _ (Whole p) (Fault p) (eq-eqb _ _ e)))
-      (record {
-        readable = h.back (subst (CompletesFrom s) (sym empty) (subst (λ k. Completes k s.least s.most []) (sym e) tt));
-        ends = sym same;
-        ordered = from;
-        within = within;
-      }))
-      (λ (e : s.more ≡ 0 → ⊥). subst (IsScan bytes d o) (sym (cond-false _ (Whole p) (Fault p) (ne_eqb _ _ e)))
-      (record {
-        none = λ q x y. false_from_ne_true _
-            (λ (r : is_readable bytes d q ≡ true). missing e (subst (CompletesFrom s) empty (h.forth q x y r)));
-        further = ⊎_elim (λ (z : o < p). z) (λ (z : p ≤ o). absurd (e (h.begun (omega arith)))) (cases_lt o p);
-        within = within;
-      }))
-      (cases_eq s.more 0)
-    where
-      none_missing : (n lo hi : ℕ) → Completes n lo hi [] → n ≡ 0
-      none_missing n lo hi v = grind arith
-
-      missing : (s.more ≡ 0 → ⊥) → CompletesFrom s [] → ⊥
-      missing e v = e (none_missing s.more s.least s.most v)
+  scan_ends there h = grind (arith, end_is, piece_at_end)
 
 -- what an attempt that fails says of the bytes, which it didn't change
 pub attempt_fault : {bytes seen : List ℕ} {end i next : ℕ} (d : ℕ)

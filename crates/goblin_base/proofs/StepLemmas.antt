@@ -1,6 +1,6 @@
 -- What each of several steps returned, if all of them succeeded.
-use Rattle.goblin_base.proofs.Common.{◌≡◌, Bool, true, not, Option, Some, Result, Ok, Err, refl, ◌>>=◌, arith}
-use Rattle.goblin_base.proofs.Common.{refuse_as, or_refuse, refuse_if}
+use Rattle.goblin_base.proofs.Common.{◌≡◌, Bool, true, not, Option, Some, Result, Ok, ◌>>=◌, arith, refuse_as}
+use Rattle.goblin_base.proofs.Common.{or_refuse, refuse_if}
 
 -- the value of the first step, and the success of the steps after it
 pub record Step {X Y E : Type 0} (first : Result X E) (next : X → Result Y E) (y : Y) : Type 0 where
@@ -10,8 +10,7 @@ pub record Step {X Y E : Type 0} (first : Result X E) (next : X → Result Y E) 
 
 pub step : {X Y E : Type 0} (first : Result X E) (next : X → Result Y E) (y : Y)
     → (first >>= next) ≡ Ok y → Step first next y
-step (Ok x) next y is = record { value = x; is = refl; rest = is }
-step (Err e) next y is = absurd (cc)
+step first next y is = grind arith
 
 -- a test that did not refuse
 pub passed : {E : Type 0} (test : Bool) (e : E) (u : Unit {0}) → refuse_if (not test) e ≡ Ok u → test ≡ true

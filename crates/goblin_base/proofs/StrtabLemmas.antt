@@ -3,19 +3,18 @@
 -- The table of a range is defined in steps that can fail. Where the range is cut out, it is the table of these bytes
 -- (`strtab_in_range`); where the walk succeeds, it has all entries (`walked_entries`). A look-up in it is the one in
 -- the bytes, because its entries are theirs (`look_up_among`).
-use Rattle.goblin_base.proofs.Common.{◌≡◌, ℕ, ◌+◌, ◌-◌, ◌≤◌, Bool, true, false, cond, ltb, drop, List, [], length}
-use Rattle.goblin_base.proofs.Common.{get_or, refl, sym, ap, subst, ◌∙◌, ◌<◌, ⊎_elim, not, arith, Option, None, Result}
-use Rattle.goblin_base.proofs.Common.{Ok, Err, cases_lt, cond-true, cond-false, lt-ltb, le-ltb, length-take-le}
-use Rattle.goblin_base.proofs.Common.{take_all, take_rest, prefix_len-le-length, EachIndex, before_first}
-use Rattle.goblin_base.proofs.Common.{position_or_len, position, Bor, unwrap_or, option_map, MatchOption}
-use Rattle.goblin_base.proofs.Common.{IsCharBoundary, ParseMode, Strict, Permissive, entry_text, entries, first_bad}
-use Rattle.goblin_base.proofs.Common.{text_at, places_of, text_of, IsLastUpTo, Refusal, malformed, ◌>>=◌, refuse_as}
-use Rattle.goblin_base.proofs.Common.{StringTable, look_up, range_in, strtab_of, table_of, walked, zero, suc, ◌∷◌, take}
-use Rattle.goblin_base.proofs.Common.{Some, cases_Bool, both_ways, false_from_ne_true, drop-drop, drop-take, length-map}
-use Rattle.goblin_base.proofs.Common.{IsUtf8-from_is_utf8, is_utf8-from_IsUtf8, slice_range, IsUtf8, place_of}
-use Rattle.goblin_base.proofs.Common.{piece_end, piece, is_readable, entries_from, is_entry_place}
+use Rattle.goblin_base.proofs.Common.{common_steps, ◌≡◌, ℕ, ◌+◌, ◌-◌, ◌≤◌, Bool, true, false, drop, List, [], length}
+use Rattle.goblin_base.proofs.Common.{get_or, sym, ap, subst, ◌∙◌, ◌<◌, ⊎_elim, not, arith, Option, None, Result, Ok}
+use Rattle.goblin_base.proofs.Common.{cases_lt, cond-true, cond-false, lt-ltb, le-ltb, length-take-le, take_rest}
+use Rattle.goblin_base.proofs.Common.{prefix_len-le-length, EachIndex, before_first, position_or_len, position, Bor}
+use Rattle.goblin_base.proofs.Common.{unwrap_or, option_map, MatchOption, IsCharBoundary, ParseMode, entry_text}
+use Rattle.goblin_base.proofs.Common.{entries, text_at, places_of, text_of, IsLastUpTo, Refusal, malformed, ◌>>=◌}
+use Rattle.goblin_base.proofs.Common.{refuse_as, StringTable, look_up, range_in, strtab_of, table_of, walked, zero, suc}
+use Rattle.goblin_base.proofs.Common.{◌∷◌, take, Some, drop-drop, drop-take, length-map, IsUtf8-from_is_utf8}
+use Rattle.goblin_base.proofs.Common.{is_utf8-from_IsUtf8, slice_range, IsUtf8, place_of, piece_end, piece, is_readable}
+use Rattle.goblin_base.proofs.Common.{entries_from, is_entry_place}
 use Rattle.goblin_base.proofs.WalkLemmas.{entries_past, next_place, entries_more, entry_place_next, entry_place_from}
-use Rattle.goblin_base.proofs.WalkLemmas.{no_entry_place, text_if_readable, text_if_not, next_if_readable, next_if_not}
+use Rattle.goblin_base.proofs.WalkLemmas.{no_entry_place, text_if_readable, text_if_not}
 use Rattle.std.proofs.lemmas.Str.{IsUtf8-drop, IsCharBoundary-from_drop}
 use Rattle.goblin_base.proofs.PiecesLemmas.{end_same, length-piece, piece_is_range, start_same, start_to}
 
@@ -42,31 +41,10 @@ module _ (bytes : List ℕ) (d : ℕ) where
   entry_at_front : (i : ℕ)
       → i < length bytes → is_entry_place bytes d i ≡ true
       → IsEntry ((i, entry_text bytes d i) ∷ entries_from bytes d (next_place bytes d i)) 0
-  entry_at_front i l h = record {
-    within = l;
-    place = h;
-    text = refl;
-    next = λ m. ⊎_elim
-        (λ (x : next_place bytes d i < length bytes). first_place _ x)
-        (λ (x : length bytes ≤ next_place bytes d i). let e = ap length (entries_past bytes d _ x) in
-        absurd (omega (arith, e)))
-        (cases_lt (next_place bytes d i) (length bytes));
-    last = λ m. ⊎_elim
-        (λ (x : next_place bytes d i < length bytes). absurd (omega (arith, some_entry _ x)))
-        (λ (x : length bytes ≤ next_place bytes d i). x)
-        (cases_lt (next_place bytes d i) (length bytes));
-  }
+  entry_at_front i l h = grind (arith, first_place, entries_past, some_entry)
 
   entry_after : (e : ℕ × List ℕ) (es : List (ℕ × List ℕ)) (k : ℕ) → IsEntry es k → IsEntry (e ∷ es) (suc k)
-  entry_after e es k h =
-      let s : suc k + 1 ≡ suc (k + 1) = omega arith in
-      record {
-        within = h.within;
-        place = h.place;
-        text = h.text;
-        next = λ m. ap (λ j. get_or (places_of (e ∷ es)) j 0) s ∙ h.next (omega arith);
-        last = λ m. h.last (omega arith);
-      }
+  entry_after e es k h = grind arith
 
   pub entry_from : (k i : ℕ)
       → (i < length bytes → is_entry_place bytes d i ≡ true) → k < length (entries_from bytes d i)
@@ -131,43 +109,14 @@ module _ (bytes : List ℕ) (d : ℕ) where
         → text_at bytes d o ≡ Some (drop (o - p) (entry_text bytes d p))
     pub inside : ¬ (IsCharBoundary (entry_text bytes d p) (o - p)) → text_at bytes d o ≡ None
 
+  ruleset readings = (text_if_readable, readable_utf8, text_at_readable, readable_is)
+
+  ruleset cuts = (piece_rest, IsUtf8-drop, IsCharBoundary-from_drop, length-piece)
+
   pub looked_up : (p o : ℕ)
       → is_entry_place bytes d p ≡ true → p ≤ o → o < next_place bytes d p → o < length bytes → IsLookUp p o
-  looked_up p o h l m n = ⊎_elim
-      (λ (r : is_readable bytes d p ≡ true).
-      let e = text_if_readable bytes d p r in
-      let until : o ≤ piece_end bytes d p = omega (arith, next_if_readable bytes d p r) in
-      let rest = piece_rest p o (omega arith) l until in
-      record {
-        at_boundary = λ b.
-            let text : IsUtf8 (piece bytes d o) =
-            subst IsUtf8 rest
-            (IsUtf8-drop (piece bytes d p) (o - p) (readable_utf8 p r) (subst (λ t. IsCharBoundary t (o - p)) e b)) in
-            text_at_readable o n (readable_is o text) ∙ ap Some (sym (ap (drop (o - p)) e ∙ rest));
-        inside = λ b.
-            let bad : is_readable bytes d o ≡ false = false_from_ne_true _ (λ (s : is_readable bytes d o ≡ true).
-            b (subst (λ t. IsCharBoundary t (o - p)) (sym e)
-            (IsCharBoundary-from_drop (piece bytes d p) (o - p) (omega (arith, length-piece bytes d p))
-            (subst IsUtf8 (sym rest) (readable_utf8 o s))))) in
-            let earlier : p < o =
-            ⊎_elim (λ (x : p < o). x)
-            (λ (x : o ≤ p). let same : o ≡ p = omega arith in
-            absurd (both_ways _ (ap (is_readable bytes d) (sym same) ∙ bad) r)) (cases_lt p o) in
-            text_at_inside o n bad
-            (no_entry_place bytes d o p (omega (arith, start_same bytes d p o l until, start_to bytes d p)) earlier r);
-      })
-      (λ (r : is_readable bytes d p ≡ false).
-      let e = text_if_not bytes d p r in
-      let same : o ≡ p = omega (arith, next_if_not bytes d p r) in
-      let none : o - p ≡ 0 = omega arith in
-      let found = text_at_bad o n (ap (is_readable bytes d) same ∙ r) (ap (is_entry_place bytes d) same ∙ h) in
-      record {
-        at_boundary = λ b. found ∙ ap Some (sym (ap (drop (o - p)) e ∙ ap (λ x. drop {A = ℕ} x []) none));
-        inside = λ b.
-            absurd (b (subst (λ x. IsCharBoundary (entry_text bytes d p) x) (sym none)
-            (subst (λ t. IsCharBoundary t 0) (sym e) (omega arith, λ x. absurd (omega arith)))));
-      })
-      (cases_Bool (is_readable bytes d p))
+  looked_up p o h l m n =
+      grind (arith, readings, cuts, text_at_inside, no_entry_place, start_same, start_to, text_if_not, text_at_bad)
 
   -- the binary search finds the entry that a look-up needs
   pub found_look_up : (o k : ℕ)
@@ -186,17 +135,14 @@ module _ (bytes : List ℕ) (d : ℕ) where
   pub not_all_after : (o : ℕ)
       → 0 < length bytes
       → ¬ (EachIndex (places_of (entries bytes d)) (λ k. o < get_or (places_of (entries bytes d)) k 0))
-  not_all_after o l h =
-      omega (arith, h 0 (omega (arith, some_entry 0 l, length-map (entries bytes d) place_of)), first_place 0 l)
+  not_all_after o l h = grind (arith, some_entry, length-map, first_place)
 
   -- the result of a look-up, from the text t of the entry at p
   pub answered : (r : Option (Bor (List ℕ))) (p o : ℕ) (t : List ℕ)
       → IsLookUp p o → t ≡ entry_text bytes d p
       → MatchOption r (¬ (IsCharBoundary t (o - p))) (λ x. IsCharBoundary t (o - p) × (x.now ≡ drop (o - p) t))
       → option_map (λ s. s.now) r ≡ text_at bytes d o
-  answered None p o t h e m = sym (h.inside (subst (λ x. ¬ (IsCharBoundary x (o - p))) e m))
-  answered (Some x) p o t h e m =
-      ap Some (m.1 ∙ ap (drop (o - p)) e) ∙ sym (h.at_boundary (subst (λ x. IsCharBoundary x (o - p)) e m.0))
+  answered r p o t h e m = grind arith
 
   pub entry_text_at : (o k : ℕ)
       → IsLastUpTo (places_of (entries bytes d)) o k
@@ -206,20 +152,12 @@ module _ (bytes : List ℕ) (d : ℕ) where
 -- ---- from ranges and walks to string tables
 
 pub look_up_past : (t : StringTable) (o : ℕ) → length t.bytes ≤ o → look_up t o ≡ None
-look_up_past t o h =
-    let none = text_at_past t.bytes t.delim o h in
-    grind arith
-
--- a walk returns all entries
-ok_only : (b : Bool) (e : Refusal) (es fs : List (ℕ × List ℕ))
-    → ◌≡◌ {A = Result (List (ℕ × List ℕ)) Refusal} (cond b (Err e) (Ok es)) (Ok fs) → fs ≡ es
-ok_only b e es fs h = grind arith
+look_up_past t o h = grind (arith, text_at_past)
 
 pub walked_entries : (mode : ParseMode) (bytes : List ℕ) (d : ℕ) (es : List (ℕ × List ℕ))
     → walked mode bytes d ≡ Ok es → es ≡ entries bytes d
 unfolding walked
-walked_entries Permissive bytes d es h = cc
-walked_entries Strict bytes d es h = ok_only (ltb (first_bad bytes d) (length bytes)) _ _ es h
+walked_entries mode bytes d es h = grind arith
 
 -- no bytes have no entries
 pub no_entries : (bytes : List ℕ) (d : ℕ) → bytes ≡ [] → entries bytes d ≡ []
@@ -227,9 +165,7 @@ no_entries bytes d e = entries_past bytes d 0 (omega (arith, ap length e))
 
 pub none_walked : (mode : ParseMode) (bytes : List ℕ) (d : ℕ) → bytes ≡ [] → walked mode bytes d ≡ Ok []
 unfolding walked
-none_walked Permissive bytes d e = ap Ok (no_entries bytes d e)
-none_walked Strict bytes d e =
-    rw (le-ltb (first_bad bytes d) (length bytes) (omega (arith, ap length e)), no_entries bytes d e) refl
+none_walked mode bytes d e = grind (arith, no_entries)
 
 pub ruleset empties = (no_entries, none_walked)
 
@@ -248,10 +184,7 @@ strtab_in_range mode file o n d range e = strtab_by mode file o n d (Ok range) (
 -- the whole file is a range
 pub whole_range : (mode : ParseMode) (file : List ℕ) → range_in mode file 0 (length file) ≡ Ok file
 unfolding range_in
-whole_range mode file =
-    cond-false _ _ _ (le-ltb (length file) 0 (omega arith))
-    ∙ cond-false _ _ _ (le-ltb (length file) (0 + length file) (omega arith))
-    ∙ ap Ok (take_all (length file) file (omega arith))
+whole_range mode file = grind (arith, common_steps)
 
 -- so the table of the whole file is that of its bytes
 pub whole_table : (mode : ParseMode) (file : List ℕ) (d : ℕ)
@@ -262,13 +195,7 @@ pub ruleset wholes = (whole_range, whole_table)
 
 -- the index of the first delimiter, or the length
 pub first_or_length : (t : ℕ → Bool) (xs : List ℕ) → unwrap_or (position t xs) (length xs) ≡ position_or_len t xs
-first_or_length t xs = ⊎_elim
-    (λ (l : position_or_len t xs < length xs).
-    ap (λ r. unwrap_or r (length xs)) (cond-true _ _ _ (lt-ltb (position_or_len t xs) (length xs) l)))
-    (λ (l : length xs ≤ position_or_len t xs).
-    ap (λ r. unwrap_or r (length xs)) (cond-false _ _ _ (le-ltb (position_or_len t xs) (length xs) l))
-    ∙ (let e : length xs ≡ position_or_len t xs = omega (arith, prefix_len-le-length (λ b. not (t b)) xs) in e))
-    (cases_lt (position_or_len t xs) (length xs))
+first_or_length t xs = grind (arith, prefix_len-le-length)
 
 -- the length of a piece is the index of the first delimiter, or the length of the rest
 pub length-before_first : (t : ℕ → Bool) (xs : List ℕ) → length (before_first t xs) ≡ position_or_len t xs

@@ -4,16 +4,15 @@
 -- none between the two passes it (`inside_entry`). So the entries of the walk are those of the offsets that pass it,
 -- each tested for itself (`entries_closed`). Inside a piece no other whole piece begins (`no_bad_start_inside`), so
 -- strict mode, which tests each piece from its start, fails where `first_bad` says (`first_bad_is`).
-use Rattle.goblin_base.proofs.Common.{◌≡◌, ℕ, zero, suc, ◌+◌, ◌-◌, ◌<◌, ◌≤◌, ⊎_elim, true, false, cond, ltb, List, []}
-use Rattle.goblin_base.proofs.Common.{◌∷◌, map, length, refl, sym, ap, subst, ◌∙◌, arith, cases_lt, cases_Bool}
-use Rattle.goblin_base.proofs.Common.{cond-true, cond-false, lt-ltb, le-ltb, eq-eqb, both_ways, and_parts, and_from}
-use Rattle.goblin_base.proofs.Common.{not-true, false_from_ne_true, not_from_true, not_from_false, and_left, and_right}
+use Rattle.goblin_base.proofs.Common.{common_steps, ◌≡◌, ℕ, zero, suc, ◌+◌, ◌-◌, ◌<◌, ◌≤◌, ⊎_elim, true, false, List}
+use Rattle.goblin_base.proofs.Common.{[], ◌∷◌, map, length, refl, sym, ap, ◌∙◌, arith, cases_lt, cond-true, cond-false}
+use Rattle.goblin_base.proofs.Common.{lt-ltb, le-ltb, eq-eqb, both_ways, and_parts, and_from, not-true}
+use Rattle.goblin_base.proofs.Common.{false_from_ne_true, not_from_true, not_from_false, and_right}
 use Rattle.goblin_base.proofs.Common.{length-range_with_len, get_or-range_with_len, position_or_len_is}
 use Rattle.goblin_base.proofs.Common.{is_utf8-from_IsUtf8, IsUtf8-nil, filter, range_with_len, is_utf8, piece_end}
 use Rattle.goblin_base.proofs.Common.{piece, piece_start, is_readable, entry_text, entries_from, entries}
-use Rattle.goblin_base.proofs.Common.{is_entry_place, is_bad_start, first_bad, ◌++◌, Ok, Err, append_assoc, append-nil}
-use Rattle.goblin_base.proofs.Common.{slice_range, IsUtf8, walked, invalid_utf8, ParseMode, Strict, Permissive, IsTrue}
-use Rattle.std.proofs.lemmas.Bool.{ne_eqb}
+use Rattle.goblin_base.proofs.Common.{is_entry_place, is_bad_start, first_bad, ◌++◌, Ok, Err, append-nil, slice_range}
+use Rattle.goblin_base.proofs.Common.{IsUtf8, walked, invalid_utf8, ParseMode, Strict, Permissive, IsTrue}
 use Rattle.goblin_base.specs.Pieces.{walk_within, none_readable, entries_by_place}
 use Rattle.goblin_base.proofs.PiecesLemmas.{end_from, end_same, length-piece, piece_at_end, start_to, start_same}
 use Rattle.goblin_base.proofs.PiecesLemmas.{start_next, end_within, piece_is_range}
@@ -30,22 +29,12 @@ module _ (bytes : List ℕ) (d : ℕ) where
   within_more zero zero i p q = refl
   within_more zero (suc m) i p q = sym (cond-false _ _ _ (le-ltb i (length bytes) (omega arith)))
   within_more (suc n) zero i p q = cond-false _ _ _ (le-ltb i (length bytes) (omega arith))
-  within_more (suc n) (suc m) i p q = ⊎_elim
-      (λ (l : i < length bytes).
-      ap (λ x. cond (ltb i (length bytes)) ((i, entry_text bytes d i) ∷ x) [])
-      (within_more n m (next_place i) (omega arith) (omega arith)))
-      (λ (l : length bytes ≤ i). cond-false _ _ _ (le-ltb i (length bytes) l)
-      ∙ sym (cond-false _ _ _ (le-ltb i (length bytes) l)))
-      (cases_lt i (length bytes))
+  within_more (suc n) (suc m) i p q = grind (arith, within_more n m (next_place i) (omega arith) (omega arith))
 
   pub entries_more : (i : ℕ)
       → i < length bytes → entries_from bytes d i ≡ (i, entry_text bytes d i) ∷ entries_from bytes d (next_place i)
   unfolding entries_from
-  entries_more i h =
-      let e : length bytes - i ≡ suc (length bytes - i - 1) = omega arith in
-      ap (λ k. walk_within k bytes d i) e ∙ cond-true _ _ _ (lt-ltb i (length bytes) h)
-      ∙ ap (λ x. (i, entry_text bytes d i) ∷ x)
-      (within_more (length bytes - i - 1) (length bytes - next_place i) (next_place i) (omega arith) (omega arith))
+  entries_more i h = grind (arith, within_more)
 
   pub entries_past : (i : ℕ) → length bytes ≤ i → entries_from bytes d i ≡ []
   unfolding entries_from
@@ -68,18 +57,12 @@ module _ (bytes : List ℕ) (d : ℕ) where
   pub entries_more_readable : (i : ℕ)
       → i < length bytes → is_readable bytes d i ≡ true
       → entries_from bytes d i ≡ (i, piece bytes d i) ∷ entries_from bytes d (piece_end bytes d i + 1)
-  entries_more_readable i h r =
-      entries_more i h
-      ∙ ap (λ t. (i, t) ∷ entries_from bytes d (next_place i)) (text_if_readable i r)
-      ∙ ap (λ k. (i, piece bytes d i) ∷ entries_from bytes d k) (next_if_readable i r)
+  entries_more_readable i h r = grind (arith, entries_more, text_if_readable, next_if_readable)
 
   pub entries_more_bad : (i : ℕ)
       → i < length bytes → is_readable bytes d i ≡ false
       → entries_from bytes d i ≡ (i, []) ∷ entries_from bytes d (i + 1)
-  entries_more_bad i h r =
-      entries_more i h
-      ∙ ap (λ t. (i, t) ∷ entries_from bytes d (next_place i)) (text_if_not i r)
-      ∙ ap (λ k. (i, []) ∷ entries_from bytes d k) (next_if_not i r)
+  entries_more_bad i h r = grind (arith, entries_more, text_if_not)
 
   -- the empty piece is UTF-8
   pub readable_at_end : (i : ℕ) → piece_end bytes d i ≡ i → is_readable bytes d i ≡ true
@@ -101,9 +84,7 @@ module _ (bytes : List ℕ) (d : ℕ) where
       → ((q : ℕ) → o ≤ q → q < o + k → is_readable bytes d q ≡ false) → none_readable bytes d o k ≡ true
   unfolding none_readable
   none_from o zero h = refl
-  none_from o (suc k) h =
-      and_from _ _ (not_from_false _ (h o (omega arith) (omega arith)))
-      (none_from (o + 1) k (λ q p r. h q (omega arith) (omega arith)))
+  none_from o (suc k) h = grind (arith, none_from (o + 1) k (λ q p r. h q (omega arith) (omega arith)))
 
   pub none_at : (o k : ℕ)
       → none_readable bytes d o k ≡ true → (q : ℕ) → o ≤ q → q < o + k → is_readable bytes d q ≡ false
@@ -131,32 +112,15 @@ module _ (bytes : List ℕ) (d : ℕ) where
 
   -- no offset inside an entry's text is one, nor that of the delimiter after it
   pub inside_entry : (i q : ℕ) → i < q → q < next_place i → is_entry_place bytes d q ≡ false
-  inside_entry i q l h = ⊎_elim
-      (λ (r : is_readable bytes d i ≡ true).
-      let same = start_same bytes d i q (omega arith) (omega (arith, next_if_readable i r)) in
-      no_entry_place q i (omega (arith, same, start_to bytes d i)) l r)
-      (λ (r : is_readable bytes d i ≡ false). absurd (omega (arith, next_if_not i r)))
-      (cases_Bool (is_readable bytes d i))
+  inside_entry i q l h = grind (arith, start_same, next_if_readable, no_entry_place, start_to, next_if_not)
+
+  ruleset next_places = (next_if_readable, next_if_not, start_next)
 
   -- the offset after an entry is one
   pub entry_place_next : (i : ℕ)
       → is_entry_place bytes d i ≡ true → next_place i < length bytes → is_entry_place bytes d (next_place i) ≡ true
-  entry_place_next i h l = ⊎_elim
-      (λ (r : is_readable bytes d i ≡ true). let e = next_if_readable i r in
-      subst (λ k. is_entry_place bytes d k ≡ true) (sym e)
-      (entry_place_from _ (λ q p s. absurd (omega (arith, start_next bytes d i (omega arith) (omega arith))))))
-      (λ (r : is_readable bytes d i ≡ false). let e = next_if_not i r in
-      let wide : i < piece_end bytes d i =
-      ⊎_elim (λ (m : i < piece_end bytes d i). m)
-      (λ (m : piece_end bytes d i ≤ i). absurd (both_ways _ r (readable_at_end i (omega (arith, end_from bytes d i)))))
-      (cases_lt i (piece_end bytes d i)) in
-      let s : piece_start bytes d (i + 1) ≡ piece_start bytes d i =
-      start_same bytes d i (i + 1) (omega arith) (omega arith) in
-      subst (λ k. is_entry_place bytes d k ≡ true) (sym e) (entry_place_from (i + 1) (λ q p t. ⊎_elim
-      (λ (m : q < i). entry_place_at i h q (omega arith) m)
-      (λ (m : i ≤ q). let f : q ≡ i = omega arith in ap (is_readable bytes d) f ∙ r)
-      (cases_lt q i))))
-      (cases_Bool (is_readable bytes d i))
+  entry_place_next i h l =
+      grind (arith, next_places, entry_place_from, readable_at_end, end_from, start_same, entry_place_at)
 
   -- ---- the entries, offset by offset
   abbrev pub entry_at : ℕ → ℕ × List ℕ
@@ -169,15 +133,10 @@ module _ (bytes : List ℕ) (d : ℕ) where
   skipped : (i n k : ℕ)
       → ((q : ℕ) → i ≤ q → q < i + n → is_entry_place bytes d q ≡ false) → n ≤ k
       → from_places i k ≡ from_places (i + n) (k - n)
-  skipped i zero k h l = let e : i ≡ i + 0 = omega arith in
-      let f : k ≡ k - 0 = omega arith in ap (λ x. from_places x k) e ∙ ap (from_places (i + 0)) f
+  skipped i zero k h l = grind arith
   skipped i (suc n) zero h l = absurd (omega arith)
   skipped i (suc n) (suc k) h l =
-      let e : i + 1 + n ≡ i + suc n = omega arith in
-      let f : k - n ≡ suc k - suc n = omega arith in
-      ap (map entry_at) (cond-false _ _ _ (h i (omega arith) (omega arith)))
-      ∙ skipped (i + 1) n k (λ q p r. h q (omega arith) (omega arith)) (omega arith)
-      ∙ ap (λ x. from_places x (k - n)) e ∙ ap (from_places (i + suc n)) f
+      grind (arith, skipped (i + 1) n k (λ q p r. h q (omega arith) (omega arith)) (omega arith))
 
   walk_by_place : (k i : ℕ)
       → length bytes - i ≤ k → (i < length bytes → is_entry_place bytes d i ≡ true)
@@ -210,10 +169,7 @@ module _ (bytes : List ℕ) (d : ℕ) where
   -- the closed form: the walk's entries are those of the offsets that pass the test
   pub entries_closed : entries bytes d ≡ entries_by_place bytes d
   unfolding entries_from entries_by_place
-  entries_closed =
-      let e : length bytes - 0 ≡ length bytes = omega arith in
-      walk_by_place (length bytes - 0) 0 (omega arith) (λ _. entry_place_from 0 (λ q p r. absurd (omega arith)))
-      ∙ ap (from_places 0) e
+  entries_closed = grind (arith, walk_by_place, entry_place_from)
 
   -- ---- where strict mode fails
   pub bad_start_from : (i : ℕ)
@@ -227,10 +183,7 @@ module _ (bytes : List ℕ) (d : ℕ) where
 
   pub no_bad_start_inside : (i q : ℕ) → i < q → q ≤ piece_end bytes d i → is_bad_start bytes d q ≡ false
   unfolding is_bad_start
-  no_bad_start_inside i q l h =
-      and_left _ _
-      (ne_eqb _ _ (λ (e : piece_start bytes d q ≡ q).
-      omega (arith, e, start_same bytes d i q (omega arith) h, start_to bytes d i)))
+  no_bad_start_inside i q l h = grind (arith, start_same, start_to)
 
   pub first_bad_is : (i : ℕ)
       → i ≤ length bytes → ((k : ℕ) → k < i → is_bad_start bytes d k ≡ false)
@@ -256,8 +209,7 @@ module _ (bytes : List ℕ) (d : ℕ) where
   pub readable_from_text : (i e : ℕ)
       → e ≡ piece_end bytes d i → IsUtf8 (slice_range bytes i e) → is_readable bytes d i ≡ true
   unfolding is_readable
-  readable_from_text i e same u =
-      ap is_utf8 (piece_is_range bytes d i ∙ ap (slice_range bytes i) (sym same)) ∙ is_utf8-from_IsUtf8 _ u
+  readable_from_text i e same u = grind (arith, piece_is_range, is_utf8-from_IsUtf8)
 
   pub bad_from_fault : (i e : ℕ)
       → e ≡ piece_end bytes d i → ¬ (IsUtf8 (slice_range bytes i e)) → is_readable bytes d i ≡ false
@@ -273,11 +225,7 @@ module _ (bytes : List ℕ) (d : ℕ) where
   pub entry_of_text : (i e : ℕ) (t : List ℕ)
       → i < length bytes → e ≡ piece_end bytes d i → t ≡ slice_range bytes i e → is_readable bytes d i ≡ true
       → entries_from bytes d i ≡ (i, t) ∷ entries_from bytes d (e + 1)
-  entry_of_text i e t l same is r =
-      entries_more_readable bytes d i l r
-      ∙ ap (λ x. (i, x) ∷ entries_from bytes d (piece_end bytes d i + 1))
-      (piece_is_range bytes d i ∙ ap (slice_range bytes i) (sym same) ∙ sym is)
-      ∙ ap (λ k. (i, t) ∷ entries_from bytes d (k + 1)) (sym same)
+  entry_of_text i e t l same is r = grind (arith, entries_more_readable, piece_is_range)
 
   -- the entries so far and those from i on are all entries
   abbrev pub IsFoundSoFar : List (ℕ × List ℕ) → ℕ → Type 0
@@ -285,11 +233,7 @@ module _ (bytes : List ℕ) (d : ℕ) where
 
   pub found_more : (es fs : List (ℕ × List ℕ)) (e : ℕ × List ℕ) (i j : ℕ)
       → fs ≡ es ++ e ∷ [] → entries_from bytes d i ≡ e ∷ entries_from bytes d j → IsFoundSoFar es i → IsFoundSoFar fs j
-  found_more es fs e i j same step h =
-      ap (λ l. l ++ entries_from bytes d j) same
-      ∙ append_assoc es (e ∷ []) (entries_from bytes d j)
-      ∙ ap (λ l. es ++ l) (sym step)
-      ∙ h
+  found_more es fs e i j same step h = grind (arith, common_steps)
 
   pub found_all : (es : List (ℕ × List ℕ)) (i : ℕ) → length bytes ≤ i → IsFoundSoFar es i → es ≡ entries bytes d
   found_all es i l h = sym (append-nil es) ∙ ap (λ x. es ++ x) (sym (entries_past bytes d i l)) ∙ h
@@ -305,32 +249,12 @@ module _ (bytes : List ℕ) (d : ℕ) where
 
   pub text_so_far_more : (i : ℕ)
       → i < length bytes → is_readable bytes d i ≡ true → IsTextSoFar i → IsTextSoFar (piece_end bytes d i + 1)
-  text_so_far_more i l r h = record {
-    no_bad_start = λ k m n. ⊎_elim
-        (λ (p : k < i). h.no_bad_start k p n)
-        (λ (p : i ≤ k). ⊎_elim
-        (λ (q : i < k). no_bad_start_inside bytes d i k q (omega arith))
-        (λ (q : k ≤ i). let e : k ≡ i = omega arith in ap (is_bad_start bytes d) e ∙ no_bad_start_readable bytes d i r)
-        (cases_lt i k))
-        (cases_lt k i);
-    starts = λ m. start_next bytes d i (omega arith) (omega arith);
-  }
+  text_so_far_more i l r h = grind (arith, no_bad_start_inside, no_bad_start_readable, start_next)
 
   -- if the first piece isn't UTF-8, the walk is still at its start
   pub nothing_passed : (i : ℕ) → is_readable bytes d 0 ≡ false → IsTextSoFar i → (i ≡ 0) × (0 < length bytes)
   unfolding piece_start
-  nothing_passed i r h =
-      let some : 0 < length bytes = ⊎_elim
-      (λ (l : 0 < length bytes). l)
-      (λ (l : length bytes ≤ 0).
-      absurd (both_ways _ r (readable_at_end bytes d 0 (omega (arith, end_within bytes d 0 (omega arith))))))
-      (cases_lt 0 (length bytes)) in (
-        ⊎_elim
-            (λ (l : 0 < i). absurd (both_ways _ (h.no_bad_start 0 l some) (bad_start_from bytes d 0 refl r)))
-            (λ (l : i ≤ 0). omega arith)
-            (cases_lt 0 i),
-        some,
-      )
+  nothing_passed i r h = grind (arith, readable_at_end, end_within, bad_start_from)
 
   pub bad_here : (i : ℕ) → i < length bytes → is_readable bytes d i ≡ false → IsTextSoFar i → first_bad bytes d ≡ i
   bad_here i l r h =
@@ -341,19 +265,12 @@ module _ (bytes : List ℕ) (d : ℕ) where
       → i < length bytes → is_readable bytes d i ≡ false → IsTextSoFar i
       → walked Strict bytes d ≡ Err (invalid_utf8 (length bytes - i))
   unfolding walked
-  walked_fault i l r h =
-      ap (λ n. cond (ltb n (length bytes)) (Err (invalid_utf8 (length bytes - n))) (Ok (entries bytes d)))
-      (bad_here i l r h)
-      ∙ cond-true _ _ _ (lt-ltb i (length bytes) l)
+  walked_fault i l r h = grind (arith, bad_here)
 
   pub walked_all : (mode : ParseMode) (i : ℕ)
       → length bytes ≤ i → (mode ≡ Strict → IsTextSoFar i) → walked mode bytes d ≡ Ok (entries bytes d)
   unfolding walked
-  walked_all Permissive i l h = refl
-  walked_all Strict i l h =
-      let e = first_bad_is bytes d (length bytes) (omega arith) (λ k m. (h refl).no_bad_start k (omega arith) m)
-      (λ m. absurd (omega arith)) in
-      cond-false _ _ _ (le-ltb (first_bad bytes d) (length bytes) (omega arith))
+  walked_all mode i l h = grind (arith, first_bad_is)
 
 pub strict_if_not_permissive : (mode : ParseMode) → (mode ≡ Permissive → IsTrue false) → mode ≡ Strict
 strict_if_not_permissive mode h = grind arith

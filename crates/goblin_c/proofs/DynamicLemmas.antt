@@ -4,23 +4,18 @@
 -- before an index, those from there on are what is left of them (`left`). So an entry that is read at a later index is
 -- the one at its place among them (`entry_at`). A range that is found lies in the file, because it is found after the
 -- test of room for it (`lies`).
-use Rattle.goblin_c.proofs.Common.{◌≡◌, ◌≤◌, ◌+◌, ◌-◌, ◌==◌, ℕ, zero, suc, List, [], ◌∷◌, length, drop, slice_get, refl}
-use Rattle.goblin_c.proofs.Common.{arith, nat_tests, drop-drop, length-drop, length-map, if◌then◌else◌, map, Option}
-use Rattle.goblin_c.proofs.Common.{Some, None, Result, Ok, Error, refusal_of, refused_at, refuse_as, ◌>>=◌, GoblinRange}
-use Rattle.goblin_c.proofs.Common.{slice_get-map, prefix_len-le-length, entries_from, ctx_of, LiesIn, dyn_converted}
-use Rattle.std.proofs.Common.{not}
-use Rattle.std.proofs.lemmas.List.Folds.{length-prefix_len}
-use Rattle.std.proofs.lemmas.List.Sums.{take_while-cons}
+use Rattle.goblin_c.proofs.Common.{List, None, Ok, Option, RefusalAt, Result, Some, [], arith, drop, drop-drop}
+use Rattle.goblin_c.proofs.Common.{entries_from, first_item, if◌then◌else◌, length, length-drop, length-map, nat_tests}
+use Rattle.goblin_c.proofs.Common.{option_map, refl, slice_get, slice_get-map, suc, zero, ℕ, ◌+◌, ◌-◌, ◌==◌, ◌>>=◌, ◌∷◌}
+use Rattle.goblin_c.proofs.Common.{◌≡◌}
+use Rattle.goblin_c.proofs.{Common.◌≤◌}
+use Rattle.goblin_c.proofs.{ListLemmas.get_drop, StringLemmas.range_lies}
+use Rattle.goblin_c.specs.Dynamic.{DynamicLiesInFile, EntriesAreCounted, EntriesAreListed, ValueIsTheFirst}
+use Rattle.goblin_c.specs.{Dynamic.dyn_converted, declared.dynamic.GoblinDyn.GoblinDyn}
+use Rattle.goblin_dynamic.specs.{Dynamic.entries_up_to_null, Dynamic.first_value, declared.entry.Dyn.Dyn}
+use Rattle.std.proofs.lemmas.List.Sums.{prefix_len-le-length, take_while-cons}
+use Rattle.std.proofs.{Common.not, lemmas.List.Folds.length-prefix_len}
 use Rattle.std.specs.Option.{option_and_then}
-use Rattle.goblin_dynamic.specs.Dynamic.{entries_up_to_null, first_value, whole_entries_in}
-use Rattle.goblin_c.proofs.Common.{ap, first_item, option_map, RefusalAt}
-use Rattle.goblin_dynamic.specs.declared.dynamic.FileRange.{FileRange}
-use Rattle.goblin_dynamic.specs.declared.entry.Dyn.{Dyn}
-use Rattle.goblin_c.specs.Dynamic.{file_range_of, range_in_file, unless_empty}
-use Rattle.goblin_c.specs.DynamicLaws.{DynamicLiesInFile, EntriesAreCounted, EntriesAreListed, ValueIsTheFirst}
-use Rattle.goblin_c.specs.declared.types.GoblinDyn.{GoblinDyn}
-use Rattle.goblin_c.proofs.IndexLemmas.{get_drop}
-use Rattle.goblin_c.proofs.StringLemmas.{range_lies}
 
 -- an entry for C, unless it ends the entries
 abbrev pub unless_end : Dyn → Option GoblinDyn
@@ -51,25 +46,13 @@ entry_at all first i within =
 
 -- they are no more than the list has from there on
 pub few_entries : (all : List Dyn) (first : ℕ) → length (entries_from all first) ≤ length all - first
-few_entries all first =
-    let test = λ (d : Dyn). not (d.d_tag == 0) in
-    let rest = drop first all in
-    rw (length-map (entries_up_to_null rest) dyn_converted, length-prefix_len test rest, ← length-drop first all)
-    (prefix_len-le-length test rest)
-
-listed : (all : Result (List Dyn) Error) (offset first : ℕ) (entries : List Dyn)
-    → refused_at offset (refuse_as refusal_of (all >>= λ whole. Ok (entries_up_to_null whole))) ≡ Ok entries
-    → first ≤ length entries
-    → (refused_at offset (refuse_as refusal_of all) >>= λ whole. Ok (unless_empty (entries_from whole first)))
-    ≡ Ok (unless_empty (map dyn_converted (drop first entries)))
-listed all offset first entries is within = grind (arith, left)
+few_entries all first = grind (arith, nat_tests, length-drop, length-map, length-prefix_len, prefix_len-le-length)
 
 pub entries_are_listed : EntriesAreListed
-entries_are_listed bytes h range first entries is within =
-    listed (whole_entries_in bytes (file_range_of range) (ctx_of h)) range.offset first entries is within
+entries_are_listed bytes h range first entries is within = grind (arith, nat_tests, left)
 
 pub entries_are_counted : EntriesAreCounted
-entries_are_counted bytes h range entries is = rw is refl
+entries_are_counted bytes h range entries is = grind (arith, nat_tests)
 
 -- the first value among all is that of the first entry with the tag
 first_there : (tag : ℕ) (all : List Dyn)
@@ -84,19 +67,12 @@ pub found_is_expected : (expected : Result (List Dyn) RefusalAt) (all : List Dyn
     → expected ≡ Ok all
     → found ≡ first_item (λ (d : Dyn). d.d_val) (λ d. d.d_tag == tag) first all
     → (expected >>= λ entries. Ok (first_item (λ (d : Dyn). d.d_val) (λ d. d.d_tag == tag) first entries)) ≡ Ok found
-found_is_expected expected all found tag first is value = rw (is, value) refl
+found_is_expected expected all found tag first is value = grind (arith, nat_tests)
 
 pub value_is_the_first : ValueIsTheFirst
-value_is_the_first bytes h range tag entries is = rw is (ap Ok (first_there tag entries))
-
-lies : (bytes : List ℕ) (range : Option FileRange) (found : GoblinRange)
-    → range_in_file bytes range ≡ Ok (Some found) → LiesIn bytes found
-lies bytes range found is = grind (arith, range_lies)
+value_is_the_first bytes h range tag entries is = grind (arith, nat_tests, first_there)
 
 pub dynamic_lies_in_file : DynamicLiesInFile
-dynamic_lies_in_file = record {
-  dynamic = λ bytes h found is. grind (arith, lies);
-  strings = λ bytes h range found is. grind (arith, lies);
-}
+dynamic_lies_in_file = grind (arith, nat_tests, range_lies)
 
 pub ruleset dynamic_laws = (entries_are_listed, entries_are_counted, value_is_the_first, dynamic_lies_in_file)

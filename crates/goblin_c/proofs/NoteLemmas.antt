@@ -3,38 +3,25 @@
 -- What a call stores is one step of the definition of a range's items: the note at the offset, and the items from the
 -- next offset on (`items_there`). So several calls, each at the offset that the last one stored, store as many items
 -- (`in_a_row`). The parts of a note lie in the file because its places do (`notes_lie_in_file`).
-use Rattle.goblin_c.proofs.Common.{◌≡◌, ◌+◌, ◌-◌, ◌<◌, ◌≤◌, ℕ, zero, suc, Bool, false, nat_le, if◌then◌else◌, List, []}
-use Rattle.goblin_c.proofs.Common.{length, take, drop, Option, Some, None, Result, Ok, refl, sym, ap, ◌∙◌, arith}
-use Rattle.goblin_c.proofs.Common.{leb-false, drop-take, take-nil, Ctx, Refusal, ◌>>=◌, RefusalAt, refused_at}
-use Rattle.goblin_c.proofs.Common.{GoblinHeader, GoblinRange, ctx_of, note_converted, nat_tests, ◌==◌, drop_all}
-use Rattle.goblin_c.proofs.Common.{length-drop, length-take, take_all, lt-leb, bytes_from, note_utf8_expected}
-use Rattle.std.proofs.Math.Seq.{drop-drop}
-use Rattle.goblin.specs.declared.elf.note.NotePlaces.{NotePlaces}
-use Rattle.goblin.specs.Nhdr.{nhdr32_of}
-use Rattle.goblin.specs.Note.{NoteParts, note_there, places_at, note_at, note_items, item_and_rest, read_places}
-use Rattle.goblin.specs.Note.{bytes_at, note_align, note_places}
-use Rattle.goblin.specs.Notes.{LieWithin}
-use Rattle.goblin.specs.Nhdr.{nhdr32_size}
-use Rattle.goblin.specs.declared.elf.note.Nhdr32.{Nhdr32}
-use Rattle.goblin_c.proofs.Common.{true, Err, fits-room_of, refuse_as, refusal_of, read_within, Endian, bytes_in}
-use Rattle.goblin_c.specs.Notes.{note_expected, parts_at, read_parts, without_last}
-use Rattle.std.specs.Str.{is_utf8}
-use Rattle.goblin.specs.NoteLaws.{note_by_note, whole_is_note}
-use Rattle.goblin_c.specs.declared.types.GoblinNote.{GoblinNote}
-use Rattle.goblin_c.specs.Laws.{NotesAreItems, NotesInARow, NotesLieInFile, items_reported, note_in, WholeNotesAreNotes}
-use Rattle.goblin_c.specs.Laws.{NotesAreText, notes_reported}
-use Rattle.goblin_c.proofs.ListedLemmas.{one_converted}
+use Rattle.goblin.specs.Note.{NoteParts, bytes_at, item_and_rest, note_align, note_at, note_items, note_places}
+use Rattle.goblin.specs.{Nhdr.nhdr32_of, Nhdr.nhdr32_size, Note.note_there, Note.places_at, Note.read_places}
+use Rattle.goblin.specs.{NoteLaws.note_by_note, NoteLaws.whole_is_note, Notes.LieWithin}
+use Rattle.goblin.specs.{declared.elf.note.Nhdr32.Nhdr32, declared.elf.note.NotePlaces.NotePlaces}
+use Rattle.goblin_base.specs.Record.{read_within}
+use Rattle.goblin_c.proofs.Common.{Bool, Ctx, Err, GoblinHeader, GoblinRange, List, None, Ok, Option, Refusal}
+use Rattle.goblin_c.proofs.Common.{RefusalAt, Result, Some, [], ap, arith, ctx_of, drop, fits-room_of, if◌then◌else◌}
+use Rattle.goblin_c.proofs.Common.{is_utf8, leb-false, length, length-drop, length-take, nat_le, nat_tests, refl}
+use Rattle.goblin_c.proofs.Common.{refusal_of, refuse_as, refused_at, suc, sym, take, take_all, true, zero, ℕ, ◌+◌, ◌-◌}
+use Rattle.goblin_c.proofs.Common.{◌<◌, ◌>>=◌}
+use Rattle.goblin_c.proofs.ListLemmas.{one_converted}
+use Rattle.goblin_c.proofs.{Common.◌∙◌, Common.◌≡◌, Common.◌≤◌}
+use Rattle.goblin_c.specs.Notes.{NotesAreItems, NotesAreText, NotesInARow, NotesLieInFile, WholeNotesAreNotes}
+use Rattle.goblin_c.specs.Notes.{bytes_from, items_reported, note_converted, note_expected, note_utf8_expected}
+use Rattle.goblin_c.specs.Notes.{notes_reported, parts_at, read_parts, without_last}
+use Rattle.goblin_c.specs.declared.notes.GoblinNote.{GoblinNote}
+use Rattle.std.proofs.{Math.Seq.drop-drop, Math.Seq.take-nil, lemmas.Bool.lt-leb, lemmas.List.drop-take}
+use Rattle.std.proofs.{lemmas.List.drop_all}
 use Rattle.goblin_base.specs.declared.container.Endian.TheVariants as endian
-
--- the note that a file has at the ranges of a stored one is the one that its bytes from the offset on have at theirs
-note_same : (bytes : List ℕ) (offset : ℕ) (places : NotePlaces)
-    → note_there (drop offset bytes) places ≡ note_in bytes (note_converted offset places)
-note_same bytes offset places =
-    λ j. record {
-      n_type = places.n_type;
-      name = take places.name_size (drop-drop places.name offset bytes j);
-      desc = take places.desc_size (drop-drop places.desc offset bytes j);
-    }
 
 -- the items of a result, before the range's end and from there on
 items_of : (past : Bool) (bytes : List ℕ) (answer : Result NotePlaces Refusal) (offset : ℕ)
@@ -44,7 +31,7 @@ items_of : (past : Bool) (bytes : List ℕ) (answer : Result NotePlaces Refusal)
     (λ len. rest (offset + len)))
     ≡ items_reported bytes
     (if past then Ok None else (refused_at offset answer >>= λ places. Ok (Some (note_converted offset places)))) rest
-items_of past bytes answer offset rest = grind (arith, nat_tests, note_same)
+items_of past bytes answer offset rest = grind (arith, nat_tests, drop-drop)
 
 items_there : (bytes : List ℕ) (h : GoblinHeader) (range : GoblinRange) (alignment offset : ℕ)
     → note_items bytes (range.offset + range.size) offset (alignment, ctx_of h)
@@ -57,8 +44,7 @@ items_there bytes h range alignment offset =
     ∙ items_of (nat_le end offset) bytes (places_at bytes offset (alignment, ctx_of h)) offset _
 
 pub notes_are_items : NotesAreItems
-notes_are_items notes h range alignment over =
-    rw (over.0, over.1) (items_there notes.bytes.now h range alignment notes.offset)
+notes_are_items notes h range alignment over = grind (arith, nat_tests, items_there)
 
 -- one more call stores one more item
 one_more : (bytes : List ℕ) (answer : Result (Option GoblinNote) RefusalAt) (calls : ℕ)
@@ -77,8 +63,7 @@ in_a_row (suc calls) bytes h range alignment offset =
     (in_a_row calls bytes h range alignment))
 
 pub notes_in_a_row : NotesInARow
-notes_in_a_row calls notes h range alignment over =
-    rw (over.0, over.1) (in_a_row calls notes.bytes.now h range alignment notes.offset)
+notes_in_a_row calls notes h range alignment over = grind (arith, nat_tests, in_a_row)
 
 -- the parts of a note that are read lie in the bytes
 align_range : (alignment align : ℕ) → note_align alignment ≡ Ok align → (4 ≤ align) × (align ≤ 8)
@@ -139,38 +124,19 @@ parts_within bytes offset ctx places is =
     }
 
 pub notes_lie_in_file : NotesLieInFile
-notes_lie_in_file bytes h range alignment offset note is =
-    let ctx : ℕ × Ctx = (alignment, ctx_of h) in
-    let steps = one_converted (nat_le (range.offset + range.size) offset) offset (parts_at bytes offset ctx)
-    (note_converted offset) note is in
-    let within = parts_within bytes offset ctx steps.0 steps.2 in
-    rw steps.3 (within.name, within.desc, omega (arith, within.least))
-
--- a note with a name that is text is read alike
-text_of_parts : (alignment : ℕ) (order : Endian) (bytes : List ℕ) (places : NotePlaces)
-    → read_places alignment order bytes ≡ Ok places → read_parts alignment order bytes ≡ Ok places
-unfolding read_places read_parts
-text_of_parts alignment order bytes places is = grind (arith, nat_tests)
-
-parts_of_text : (alignment : ℕ) (order : Endian) (bytes : List ℕ) (places : NotePlaces)
-    → read_parts alignment order bytes ≡ Ok places
-    → is_utf8 (take places.name_size (drop places.name bytes)) ≡ true → read_places alignment order bytes ≡ Ok places
-unfolding read_places read_parts
-parts_of_text alignment order bytes places is text = grind (arith, nat_tests)
+notes_lie_in_file bytes h range alignment offset note is = grind (arith, nat_tests, one_converted, parts_within)
 
 parts_of_note : (bytes : List ℕ) (offset : ℕ) (ctx : ℕ × Ctx) (places : NotePlaces)
     → places_at bytes offset ctx ≡ Ok places → parts_at bytes offset ctx ≡ Ok places
-unfolding places_at parts_at
-parts_of_note bytes offset ctx places is =
-    grind (arith, nat_tests, text_of_parts ctx.0 ctx.1.le (drop offset bytes) places)
+unfolding places_at parts_at read_places read_parts
+parts_of_note bytes offset ctx places is = grind (arith, nat_tests)
 
 note_of_parts : (bytes : List ℕ) (offset : ℕ) (ctx : ℕ × Ctx) (places : NotePlaces)
     → parts_at bytes offset ctx ≡ Ok places
     → is_utf8 (take places.name_size (drop places.name (drop offset bytes))) ≡ true
     → places_at bytes offset ctx ≡ Ok places
-unfolding places_at parts_at
-note_of_parts bytes offset ctx places is text =
-    grind (arith, nat_tests, parts_of_text ctx.0 ctx.1.le (drop offset bytes) places, text)
+unfolding places_at parts_at read_places read_parts
+note_of_parts bytes offset ctx places is text = grind (arith, nat_tests)
 
 pub notes_are_text : NotesAreText
 notes_are_text = record {
@@ -216,23 +182,13 @@ whole_notes_are_notes bytes h range alignment offset note is within =
     (ap (λ (p : NotePlaces). Ok (Some (note_converted offset p))) last
     ∙ ap (λ (n : GoblinNote). Ok (Some n)) (sym steps.3))
 
--- the note of a little-endian file whose parts were read before the end of the bytes and of its range
-parts_at-before : (bytes : List ℕ) (offset : ℕ) (ctx : ℕ × Ctx)
-    → offset < length bytes
-    → parts_at bytes offset ctx ≡ read_parts ctx.0 ctx.1.le (take (length bytes - offset) (drop offset bytes))
-unfolding parts_at
-parts_at-before bytes offset ctx before =
-    let all = take_all (length bytes - offset) (drop offset bytes) (omega (arith, length-drop offset bytes)) in
-    rw (lt-leb (length bytes) offset before, all) refl
-
 pub usual_note_is : (bytes : List ℕ) (h : GoblinHeader) (range : GoblinRange) (alignment offset : ℕ)
     (places : NotePlaces) → (h.ei_data ≡ 2 → ⊥) → offset < length bytes → offset < range.offset + range.size
     → read_parts alignment endian.Little (take (length bytes - offset) (drop offset bytes)) ≡ Ok places
     → note_expected bytes h range alignment offset ≡ Ok (Some (note_converted offset places))
+unfolding parts_at
 usual_note_is bytes h range alignment offset places other there before is =
-    let test : (h.ei_data == 2) ≡ false = grind (arith, nat_tests) in
-    let past = lt-leb (range.offset + range.size) offset before in
-    rw (past, parts_at-before bytes offset (alignment, ctx_of h) there, test, is) refl
+    grind (arith, nat_tests, lt-leb, length-drop, take_all)
 
 pub ruleset note_laws =
     (notes_are_items, notes_in_a_row, notes_lie_in_file, whole_notes_are_notes, notes_are_text)

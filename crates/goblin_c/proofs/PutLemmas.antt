@@ -1,60 +1,47 @@
 -- What is put is read again, and no other byte changes.
 --
--- The item that a call stores is read from the bytes at its place (`found_at`). After a put these are the record's
+-- The item that a call stores is read from the bytes at its place (`item_read`). After a put these are the record's
 -- image (`own_bytes`), which is read as the record. The call finds one there if the list has as many items as before
 -- (`still_there`).
-use Rattle.goblin_c.proofs.Common.{◌≡◌, ◌≤◌, ◌<◌, ◌+◌, ◌*◌, ℕ, List, ◌++◌, length, take, drop, get_or, Option, Some}
-use Rattle.goblin_c.proofs.Common.{None, Result, Ok, Err, refl, ap, ◌∙◌, arith, append_assoc, length-append}
-use Rattle.goblin_c.proofs.Common.{take-append_seam, drop-drop, drop_at, length-take-le, take-append-drop, take_all}
-use Rattle.goblin_c.proofs.Common.{slice_get-get_or, slice_get_within, IsRecord, Layout, IsBytes, count_of}
-use Rattle.goblin_c.proofs.Common.{each_converted, item_at, RefusalAt, Reloc, reloc_converted, ctx_of, IsBytes-part}
-use Rattle.goblin_c.proofs.Common.{length-part, length-drop, length-map, length_records, Bool, GoblinHeader}
-use Rattle.goblin_c.proofs.Common.{GoblinRange, section_converted, segment_converted, symbol_converted}
-use Rattle.goblin_c.proofs.Common.{sections_expected, segments_expected, symbols_expected, relocs_expected, put_unless}
-use Rattle.goblin_c.proofs.Common.{with_bytes, reloc_ctx, Misfit, program_header_laws, section_header_laws, sym_laws}
-use Rattle.goblin_c.specs.Write.{put_at, put_if_there, reloc_layout, reloc_of, section_layout, section_of}
-use Rattle.goblin_c.specs.Write.{segment_layout, segment_of, symbol_layout, symbol_of, unfit}
-use Rattle.goblin_c.specs.WriteLaws.{ChangesOnly, CountsStay, IsUnfit, PutsAreRead, PutsChangeOne, ReadsArePut}
-use Rattle.goblin_c.specs.WriteLaws.{UnfitAreRefused}
-use Rattle.goblin_c.specs.declared.types.GoblinReloc.{GoblinReloc}
-use Rattle.goblin_c.specs.declared.types.GoblinSection.{GoblinSection}
-use Rattle.goblin_c.specs.declared.types.GoblinSymbol.{GoblinSymbol}
-use Rattle.goblin_c.proofs.Common.{length-take}
-use Rattle.goblin_c.specs.Common.{Dyn, GoblinDyn}
-use Rattle.goblin_c.specs.Dynamic.{entry_expected, whole_entries_expected}
-use Rattle.goblin_c.specs.Write.{DynFits, dyn_layout, dyn_of, dyn_put_expected}
-use Rattle.goblin_c.proofs.FitLemmas.{Read, entries, relocs, reloc_same, reloc_whole, sections, section_same}
-use Rattle.goblin_c.proofs.FitLemmas.{section_whole, segments}
-use Rattle.goblin_c.proofs.FitLemmas.{symbols, symbol_same, symbol_whole}
-use Rattle.goblin_c.proofs.ReadLemmas.{found_at, same_items}
-
--- the front of a list
-take_at : (front rest : List ℕ) (n : ℕ) → length front ≡ n → take n (front ++ rest) ≡ front
-take_at front rest n long = rw (← long) (take-append_seam front rest)
+use Rattle.goblin.specs.Header.{class_named, header_layout, header_size, order_named}
+use Rattle.goblin_base.proofs.{ByteorderLemmas.length-part, Eager.length_records}
+use Rattle.goblin_base.specs.FieldLaws.{IsBytes-part, number_at-lt, number_at-with_number}
+use Rattle.goblin_base.specs.{Number.IsBytes, Number.number_at, Number.spelled, NumberLaws.length-spelled}
+use Rattle.goblin_base.specs.{NumberLaws.spelled-number, Place.with_number, declared.container.Endian.Endian}
+use Rattle.goblin_c.proofs.Common.{Ctx, Err, GoblinHeader, GoblinRange, List, None, Ok, Option, RefusalAt, Result, Some}
+use Rattle.goblin_c.proofs.Common.{ap, arith, ctx_of, drop, drop-drop, each_converted, fits-room_of, get_or, item_at}
+use Rattle.goblin_c.proofs.Common.{length, length-drop, length-map, length-take, length-take-le, mod-eq_of_lt}
+use Rattle.goblin_c.proofs.Common.{nat_tests, refl, refusal_of, refuse_as, refused_at, room_of_fits, slice_get-get_or}
+use Rattle.goblin_c.proofs.Common.{slice_get_within, take, take_all, true, ℕ, ◌*◌, ◌++◌, ◌+◌, ◌<◌, ◌>>=◌, ◌∙◌, ◌≡◌, ◌≤◌}
+use Rattle.goblin_c.proofs.ListLemmas.{Read, entries, item_read, reloc_same, reloc_whole, relocs, same_items}
+use Rattle.goblin_c.proofs.ListLemmas.{section_same, section_whole, sections, segments, symbol_same, symbol_whole}
+use Rattle.goblin_c.proofs.{ListLemmas.symbols, PlaceLemmas.numbers_lie_in_range}
+use Rattle.goblin_c.specs.Dynamic.{DynFits, dyn_layout, dyn_of, dyn_put_expected, entry_expected}
+use Rattle.goblin_c.specs.File.{FitsClass, HeadersAreRead, header_expected, header_of, named_ctx}
+use Rattle.goblin_c.specs.Laws.{CountsStay, PutsAreRead, PutsChangeOne, ReadsArePut, UnfitAreRefused}
+use Rattle.goblin_c.specs.Numbers.{NumbersArePut, NumbersInRangesArePut, is_width, number_expected, number_in_expected}
+use Rattle.goblin_c.specs.Puts.{ChangesOnly, put_at, put_if_there, put_unless, with_bytes}
+use Rattle.goblin_c.specs.{Common.Dyn, Common.Error, Common.GoblinDyn, Common.Layout, Dynamic.whole_entries_expected}
+use Rattle.goblin_c.specs.{Items.count_of, Relocs.reloc_ctx, Relocs.reloc_of, Results.refusal_converted}
+use Rattle.goblin_c.specs.{Sections.section_of, Segments.segment_of, Symbols.symbol_of, declared.misfit.Misfit.Misfit}
+use Rattle.goblin_c.specs.{declared.relocs.GoblinReloc.GoblinReloc, declared.sections.GoblinSection.GoblinSection}
+use Rattle.goblin_c.specs.{declared.symbols.GoblinSymbol.GoblinSymbol}
+use Rattle.goblin_headers.proofs.WholeTrips.{reads_back}
+use Rattle.std.proofs.{Common.append_assoc, Common.length-append, Math.Seq.take-append_seam, lemmas.List.drop_at}
+use Rattle.std.proofs.{lemmas.List.take-append-drop}
 
 -- the bytes after some were written over them at an offset
 module _ (bytes : List ℕ) (place : ℕ) (own : List ℕ) (size : ℕ) (long : length own ≡ size)
     (room : place + size ≤ length bytes) where
   front_is : length (take place bytes) ≡ place
-  front_is = length-take-le place bytes (omega (arith, room))
+  front_is = grind (arith, nat_tests, length-take-le)
 
   -- there they are
   pub own_bytes : take size (drop place (with_bytes bytes place own)) ≡ own
-  own_bytes =
-      let rest = drop (place + length own) bytes in
-      rw (append_assoc (take place bytes) own rest, drop_at (take place bytes) (own ++ rest) place front_is)
-      (take_at own rest size long)
+  own_bytes = grind (arith, nat_tests, append_assoc, drop_at, front_is, take-append_seam)
 
   pub others_stay : ChangesOnly place size bytes (with_bytes bytes place own)
-  others_stay =
-      let front = take place bytes in
-      let rest = drop (place + length own) bytes in
-      let start : length (front ++ own) ≡ place + length own = omega (arith, length-append front own, front_is) in
-      record {
-        same_length = omega (arith, length-append (front ++ own) rest, start, length-drop (place + length own) bytes);
-        before = rw (append_assoc front own rest) (take_at front (own ++ rest) place front_is);
-        after = rw (← long) (drop_at (front ++ own) rest (place + length own) start);
-      }
+  others_stay = grind (arith, nat_tests, append_assoc, drop_at, front_is, length-append, length-drop, take-append_seam)
 
 -- written over themselves they don't change
 pub rewritten : (bytes : List ℕ) (place size : ℕ)
@@ -72,7 +59,7 @@ pub put_found : {Y : Type 0} (found : Result (Option Y) RefusalAt) (misfit : Opt
     (put new : List ℕ)
     → put_if_there found (put_unless misfit place put) ≡ Ok (Some new)
     → (y : Y) × (found ≡ Ok (Some y)) × (new ≡ put)
-put_found found misfit place put new is = grind arith
+put_found found misfit place put new is = grind (arith, nat_tests)
 
 -- a list of as many items has one at the same index
 still_there : {X : Type 0} (items others : Result (List X) RefusalAt) (index : ℕ) (x : X)
@@ -87,12 +74,6 @@ still_there (Err e) others index x same found = absurd (cc)
 
 module _ {R Y : Type 0} {l : Layout R} {convert : R → Y} {start : ℕ} {list : List ℕ → Result (List R) RefusalAt}
     (own : Read l convert start list) where
-  was_read : (bytes : List ℕ) (index : ℕ) (y : Y)
-      → item_at (each_converted convert (list bytes)) index ≡ Ok (Some y)
-      → (start + index * l.size + l.size ≤ length bytes)
-      × (y ≡ convert (l.read (take l.size (drop (start + index * l.size) bytes))))
-  was_read bytes index y is = found_at convert l.size l.read bytes start index (list bytes) y (own.lists bytes) is
-
   -- such a call stores what was put
   put_is_read : (bytes new : List ℕ) (index : ℕ) (x : R)
       → l.Fits x
@@ -101,14 +82,7 @@ module _ {R Y : Type 0} {l : Layout R} {convert : R → Y} {start : ℕ} {list :
       → count_of (each_converted convert (list new)) ≡ count_of (each_converted convert (list bytes))
       → item_at (each_converted convert (list new)) index ≡ Ok (Some (convert x))
   put_is_read bytes new index x fits put same =
-      let place = start + index * l.size in
-      let found = put_found (item_at (each_converted convert (list bytes)) index) None place
-      (with_bytes bytes place (l.image x)) new put in
-      let there = still_there (each_converted convert (list bytes)) (each_converted convert (list new)) index found.0
-      same found.1 in
-      let room = (was_read bytes index found.0 found.1).0 in
-      let image = own_bytes bytes place (l.image x) l.size (own.laws.length_image x) room in
-      rw (there.1, (was_read new index there.0 there.1).1, found.2, image, own.laws.reads_back x fits) refl
+      grind (arith, nat_tests, own_bytes, put_found, reads_back, still_there, item_read own)
 
   put_changes_one : (bytes new : List ℕ) (index : ℕ) (x : R) (misfit : Option Misfit)
       → put_if_there (item_at (each_converted convert (list bytes)) index) (put_at l bytes start index x misfit)
@@ -119,7 +93,7 @@ module _ {R Y : Type 0} {l : Layout R} {convert : R → Y} {start : ℕ} {list :
       let found = put_found (item_at (each_converted convert (list bytes)) index) misfit place
       (with_bytes bytes place (l.image x)) new put in
       rw found.2
-      (others_stay bytes place (l.image x) l.size (own.laws.length_image x) (was_read bytes index found.0 found.1).0)
+      (others_stay bytes place (l.image x) l.size (own.laws.length_image x) (item_read own bytes index found.0 found.1).0)
 
   -- what such a call stores fits if what is read does, and is put without a change
   read_is_put : (back : Y → R) (bytes : List ℕ) (index : ℕ) (y : Y)
@@ -130,7 +104,7 @@ module _ {R Y : Type 0} {l : Layout R} {convert : R → Y} {start : ℕ} {list :
       ≡ Ok (Some bytes))
   read_is_put back bytes index y same are found =
       let place = start + index * l.size in
-      let read = was_read bytes index y found in
+      let read = item_read own bytes index y found in
       let there = take l.size (drop place bytes) in
       let long : length there ≡ l.size = length-part bytes place l.size read.0 in
       let some = IsBytes-part bytes place l.size are in
@@ -154,8 +128,7 @@ module _ (h : GoblinHeader) (range : GoblinRange) where
       → dyn_put_expected bytes h range index d misfit ≡ Ok new
       → put_if_there (item_at (each_converted (λ (x : Dyn). x) (whole_entries_expected bytes h range)) index)
       (put_at (dyn_layout h) bytes range.offset index (dyn_of d) misfit) ≡ Ok new
-  as_item bytes index misfit d new is =
-      rw (same_items (whole_entries_expected bytes h range) index) is
+  as_item bytes index misfit d new is = grind (arith, nat_tests, same_items)
 
   entry_changes_one : (bytes new : List ℕ) (index : ℕ) (d : GoblinDyn) (misfit : Option Misfit)
       → dyn_put_expected bytes h range index d misfit ≡ Ok (Some new)
@@ -166,8 +139,7 @@ module _ (h : GoblinHeader) (range : GoblinRange) where
   as_many : (bytes new : List ℕ) → length new ≡ length bytes
       → count_of (each_converted (λ (x : Dyn). x) (whole_entries_expected new h range))
       ≡ count_of (each_converted (λ (x : Dyn). x) (whole_entries_expected bytes h range))
-  as_many bytes new same =
-      rw same (grind (arith, length-map, length_records, length-take, length-drop))
+  as_many bytes new same = grind (arith, nat_tests, length-drop, length-map, length-take, length_records)
 
   entry_is_read : (bytes new : List ℕ) (index : ℕ) (d : GoblinDyn)
       → DynFits h d → dyn_put_expected bytes h range index d None ≡ Ok (Some new)
@@ -224,25 +196,116 @@ puts_change_one = record {
 
 -- files of the same length have as many symbols and relocations in a range
 pub counts_stay : CountsStay
-counts_stay = record {
-  symbol = λ bytes new h table same. rw same (grind (arith, length-map, length_records));
-  reloc = λ bytes new h table is_rela same. rw same (grind (arith, length-map, length_records));
-}
-
--- what doesn't fit is refused where it would be put
-unfit_put : {X : Type 0} (found : Result (Option X) RefusalAt) (x : X) (place : ℕ) (misfit : Misfit)
-    → found ≡ Ok (Some x) → IsUnfit place misfit (put_if_there found (Err (unfit place misfit)))
-unfit_put found x place misfit is = grind arith
+counts_stay = grind (arith, nat_tests, length-map, length_records)
 
 pub unfit_are_refused : UnfitAreRefused
-unfit_are_refused = record {
-  section = λ bytes h index s found misfit is. unfit_put _ found _ misfit is;
-  segment = λ bytes h index s found misfit is. unfit_put _ found _ misfit is;
-  symbol = λ bytes h table index s found misfit is. unfit_put _ found _ misfit is;
-  reloc = λ bytes h table is_rela index r found misfit is. unfit_put _ found _ misfit is;
-  entry = λ bytes h range index d found misfit is. unfit_put _ found _ misfit is;
-  number = λ bytes h offset width value found misfit is. unfit_put _ found _ misfit is;
-  number_in = λ bytes h range offset width value found misfit is. unfit_put _ found _ misfit is;
-}
+unfit_are_refused = grind (arith, nat_tests)
 
 pub ruleset put_laws = (puts_are_read, puts_change_one, reads_are_put, counts_stay)
+
+-- ---- A header that is put is read again.
+
+-- a header that names a class and a byte order, and whose bytes there are
+record Named (bytes : List ℕ) (h : GoblinHeader) (ctx : Ctx) : Type 0 where
+  class_is : class_named h.ei_class ≡ Some ctx.container
+  order_is : order_named h.ei_data ≡ Some ctx.le
+  room : header_size ctx.container ≤ length bytes
+
+named : (bytes : List ℕ) (h : GoblinHeader) (ctx : Ctx) → named_ctx bytes h ≡ Ok ctx → Named bytes h ctx
+named bytes h ctx is = grind (arith, nat_tests, fits-room_of)
+
+is_read : (bytes : List ℕ) (h : GoblinHeader) (ctx : Ctx)
+    → FitsClass bytes h → Named bytes h ctx
+    → header_expected
+    ((header_layout ctx.container ctx.le).image (header_of bytes h) ++ drop (header_size ctx.container) bytes)
+    ≡ Ok (Some h)
+is_read bytes h ctx fits names = grind (arith, nat_tests, length-drop, length-take-le, named, reads_back)
+
+-- what is put is put in a context
+put_in : (answer : Result Ctx Error) (after : Ctx → List ℕ) (new : List ℕ)
+    → (refuse_as refusal_converted (refused_at 0 (refuse_as refusal_of answer)) >>= λ c. put_unless None 0 (after c))
+    ≡ Ok (Some new)
+    → (ctx : Ctx) × (answer ≡ Ok ctx) × (after ctx ≡ new)
+put_in answer after new put = grind (arith, nat_tests)
+
+pub headers_are_read : HeadersAreRead
+headers_are_read bytes new h fits put =
+    let own = put_in (named_ctx bytes h) (λ ctx. (header_layout ctx.container ctx.le).image (header_of bytes h)
+    ++ drop (header_size ctx.container) bytes) new put in
+    rw (← own.2) (is_read bytes h own.0 fits (named bytes h own.0 own.1))
+
+-- ---- Numbers and headers that are put are read again.
+
+-- a number that is read has a width, and lies in the file
+pub read_there : (bytes : List ℕ) (h : GoblinHeader) (offset width value : ℕ)
+    → number_expected bytes h offset width ≡ Ok (Some value)
+    → (is_width width ≡ true) × (offset + width ≤ length bytes)
+    × (value ≡ number_at (ctx_of h).le bytes offset width)
+read_there bytes h offset width value is = grind (arith, fits-room_of (length bytes) offset width)
+
+-- and so it is read where both hold
+read_of : (bytes : List ℕ) (h : GoblinHeader) (offset width : ℕ)
+    → is_width width ≡ true → offset + width ≤ length bytes
+    → number_expected bytes h offset width ≡ Ok (Some (number_at (ctx_of h).le bytes offset width))
+read_of bytes h offset width is room = grind (arith, nat_tests, room_of_fits)
+
+-- the bytes of a number are written over those at its offset
+with_number-is : (order : Endian) (bytes : List ℕ) (offset width value : ℕ)
+    → with_number order bytes offset width value ≡ with_bytes bytes offset (spelled order width value)
+unfolding with_number
+with_number-is order bytes offset width value = grind (arith, nat_tests, length-spelled)
+
+number_stays : (order : Endian) (bytes : List ℕ) (offset width value : ℕ)
+    → offset + width ≤ length bytes → ChangesOnly offset width bytes (with_number order bytes offset width value)
+number_stays order bytes offset width value room =
+    rw (with_number-is order bytes offset width value)
+    (others_stay bytes offset (spelled order width value) width (length-spelled order width value) room)
+
+pub numbers_are_put : NumbersArePut
+numbers_are_put = record {
+  read = λ bytes new h offset width value fits put.
+      let order = (ctx_of h).le in
+      let put_bytes = with_number order bytes offset width value in
+      let found = put_found (number_expected bytes h offset width) None offset put_bytes new put in
+      let there = read_there bytes h offset width found.0 found.1 in
+      let stays = number_stays order bytes offset width value there.1 in
+      rw (
+        found.2,
+        read_of put_bytes h offset width there.0 (omega (arith, there.1, stays.same_length)),
+        number_at-with_number order bytes offset width value there.1,
+        mod-eq_of_lt fits,
+      ) refl;
+  one = λ bytes new h offset width value misfit put.
+      let order = (ctx_of h).le in
+      let found = put_found (number_expected bytes h offset width) misfit offset
+      (with_number order bytes offset width value) new put in
+      rw found.2
+      (number_stays order bytes offset width value (read_there bytes h offset width found.0 found.1).1);
+  back = λ bytes h offset width value are found.
+      let order = (ctx_of h).le in
+      let there = read_there bytes h offset width value found in
+      let own = take width (drop offset bytes) in
+      let spelt = spelled-number order own (IsBytes-part bytes offset width are) in
+      let same : spelled order width value ≡ own =
+      rw there.2 (rw (length-part bytes offset width there.1) at spelt) in (
+        omega (arith, number_at-lt order bytes offset width are there.1, there.2),
+        rw (
+          found,
+          with_number-is order bytes offset width value,
+          same,
+          rewritten bytes offset width there.1,
+        ) refl,
+      );
+}
+
+pub numbers_in_ranges_are_put : NumbersInRangesArePut
+numbers_in_ranges_are_put bytes h range offset width value found misfit is =
+    grind (arith, nat_tests, numbers_lie_in_range)
+
+-- a number that is found in a range lies in the file
+pub in_range_there : (bytes : List ℕ) (h : GoblinHeader) (range : GoblinRange) (offset width value : ℕ)
+    → number_in_expected bytes h range offset width ≡ Ok (Some value)
+    → range.offset + offset + width ≤ length bytes
+in_range_there bytes h range offset width value is = grind (arith, nat_tests, numbers_lie_in_range, read_there)
+
+pub ruleset number_laws = (numbers_are_put, numbers_in_ranges_are_put)

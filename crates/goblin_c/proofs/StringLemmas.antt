@@ -4,26 +4,30 @@
 -- of its range (`in_range`): so the string stands in the file at both offsets together (`piece_there`). The library's
 -- look-up passes a name exactly if a call stores a string with its bytes (`named-Decides`), so the first item that it
 -- finds is the first with that name (`by_name`).
-use Rattle.goblin_c.proofs.Common.{◌≡◌, ◌+◌, ◌-◌, ◌<◌, ◌≤◌, ◌==◌, ℕ, Bool, nat_le, List, length, take, drop, min, Some}
-use Rattle.goblin_c.proofs.Common.{Result, Ok, Err, inl, inr, refl, sym, ap, subst, ◌∙◌, arith, nat_tests, drop-take}
-use Rattle.goblin_c.proofs.Common.{length-take, take_min, take-take, Decides, before_first, position_or_len, piece}
-use Rattle.goblin_c.proofs.Common.{◌>>=◌, RefusalAt, refused_at, GoblinRange, each_converted, first_item, is_named}
-use Rattle.goblin_c.proofs.Common.{item_at, sections_expected, string_utf8_expected, strings_expected, symbols_expected}
-use Rattle.goblin_c.proofs.Common.{section_converted, symbol_converted, bytes_eq-Decides, FindsItemFrom, bytes_in, true}
-use Rattle.goblin_c.proofs.Common.{if◌then◌else◌, Option, None, length-drop, fits-room_of, range_expected, LiesIn}
-use Rattle.goblin_c.proofs.Common.{ctx_of, slice_get, mod-eq_of_lt, string_expected}
-use Rattle.goblin_c.specs.Expected.{passes}
-use Rattle.goblin_c.proofs.FitLemmas.{fits_in, section_name, sections, symbol_parts, symbols}
-use Rattle.std.proofs.Math.Seq.{drop-drop}
-use Rattle.goblin_base.specs.Strtab.{has_name, plain, range_in}
-use Rattle.goblin_c.specs.Laws.{IsNameAt, RefusesInTurn, SectionsByName, StringsAreThere, SymbolsByName}
-use Rattle.goblin_c.specs.Laws.{StringsAreCompared, range_is, range_starts, BytesLieInFile, EmptyHaveNoBytes}
-use Rattle.goblin_c.specs.Laws.{StringsAreBytes, StringsLieInFile, TextIsFound, TextIsUtf8}
-use Rattle.goblin_c.proofs.SearchLemmas.{first_found}
-use Rattle.goblin_c.proofs.ListedLemmas.{one_converted}
-use Rattle.std.specs.Prelude.{IsErr}
-use Rattle.std.specs.Str.{is_utf8}
-use Rattle.goblin_base.specs.Wanted.{is_piece, starts_piece}
+use Rattle.goblin_base.specs.{Pieces.piece, Strtab.has_name, Strtab.plain, Strtab.range_in, Wanted.is_piece}
+use Rattle.goblin_base.specs.{Wanted.starts_piece}
+use Rattle.goblin_c.proofs.Common.{Bool, Decides, Err, GoblinRange, List, None, Ok, Option, RefusalAt, Result, Some, []}
+use Rattle.goblin_c.proofs.Common.{ap, arith, closed_len, ctx_of, drop, each_converted, first_item, fits-room_of}
+use Rattle.goblin_c.proofs.Common.{get_or, if◌then◌else◌, inl, is_utf8, item_at, length, length-drop, length-take}
+use Rattle.goblin_c.proofs.Common.{length-take-le, mod-eq_of_lt, nat_le, nat_tests, position_or_len, refl, refusal_at}
+use Rattle.goblin_c.proofs.Common.{refuse_as, refused_at, slice_get, slice_get-get_or, string_expected, subst, suc, sym}
+use Rattle.goblin_c.proofs.Common.{take, true, zero, ℕ, ◌+◌, ◌-◌, ◌<◌, ◌==◌, ◌>>=◌, ◌∙◌, ◌∷◌, ◌≡◌, ◌≤◌}
+use Rattle.goblin_c.proofs.ListLemmas.{expected_is, first_found, fits_in, one_converted, section_name, sections}
+use Rattle.goblin_c.proofs.{BufferLemmas.stored_item, ListLemmas.symbol_parts, ListLemmas.symbols}
+use Rattle.goblin_c.specs.Sections.{SectionsByName, section_converted, sections_expected}
+use Rattle.goblin_c.specs.Strings.{IsCString, IsNameAt, RefusesInTurn, StringsAreBytes, StringsAreCompared}
+use Rattle.goblin_c.specs.Strings.{StringsAreThere, StringsLieInFile, TextIsUtf8, is_named, passes, range_is}
+use Rattle.goblin_c.specs.Strings.{range_starts, string_closed_expected, string_utf8_expected, strings_expected}
+use Rattle.goblin_c.specs.Symbols.{SymbolsByName, symbol_converted, symbols_expected}
+use Rattle.goblin_c.specs.{Common.GoblinRefusal, Common.Refused, Items.FindsItemFrom, Laws.BytesLieInFile}
+use Rattle.goblin_c.specs.{Laws.EmptyHaveNoBytes, Laws.TextIsFound, Numbers.LiesIn, Numbers.bytes_in}
+use Rattle.goblin_c.specs.{Numbers.range_expected, Results.Returns, Results.Stores}
+use Rattle.std.proofs.lemmas.List.Sums.{fails_before_first, passes_at_first, prefix_len-le-length}
+use Rattle.std.proofs.lemmas.List.{drop-take, get_or-drop, get_or-take, take_min}
+use Rattle.std.proofs.{Common.inr, Common.slice_index, Math.Seq.drop-drop, Math.Seq.take-take}
+use Rattle.std.proofs.{lemmas.Slice.Eq.bytes_eq-Decides}
+use Rattle.std.specs.{List.before_first, Prelude.IsErr}
+use Rattle.std.{specs.Prelude.◌≢◌}
 
 -- the strings of a range are its bytes, and lie in the file
 pub in_range : (bytes : List ℕ) (range : GoblinRange) (found : List ℕ)
@@ -35,12 +39,7 @@ in_range bytes range found is = (grind (arith, nat_tests), grind (arith, nat_tes
 -- what stands before the first byte that passes a test, among the first bytes, stands in front of all
 in_front : (test : ℕ → Bool) (n : ℕ) (all : List ℕ)
     → take (length (before_first test (take n all))) all ≡ before_first test (take n all)
-in_front test n all =
-    let part = take n all in
-    let end = position_or_len test part in
-    let long : length (take end part) ≡ min end (length part) = length-take end part in
-    let few : length (take end part) ≤ n = omega (arith, long, length-take n all) in
-    rw (← take-take (length (take end part)) n all few, long) (take_min end part)
+in_front test n all = grind (arith, nat_tests, length-take, take-take, take_min)
 
 -- so does the piece at an offset of a range, at its offset in the file
 pub piece_there : (bytes : List ℕ) (range : GoblinRange) (offset : ℕ)
@@ -57,34 +56,15 @@ piece_there bytes range offset before =
     let place : drop (range.offset + offset) bytes ≡ drop offset all = sym (drop-drop offset range.offset bytes) in
     rw (rest, place) (in_front (λ b. b == 0) n (drop offset all))
 
--- the string that is read at an offset of strings is the piece there
-pub plain_is : (strings : List ℕ) (offset : ℕ) (text : List ℕ)
-    → plain strings 0 offset ≡ Ok text → text ≡ piece strings 0 offset
-plain_is strings offset text is = grind arith
-
 -- where a string lies that was read
 abbrev pub place_of : GoblinRange → ℕ → List ℕ → GoblinRange
 place_of range offset text = record { offset = range.offset + offset; size = length text }
-
-text_there : (bytes : List ℕ) (range : GoblinRange) (offset : ℕ) (strings text : List ℕ)
-    → strings_expected bytes range ≡ Ok strings → offset < length strings → plain strings 0 offset ≡ Ok text
-    → bytes_in bytes (place_of range offset text) ≡ text
-text_there bytes range offset strings text found before is =
-    let of_range = (in_range bytes range strings found).0 in
-    rw (plain_is strings offset text is, of_range)
-    (piece_there bytes range offset (subst (λ (xs : List ℕ). offset < length xs) of_range before))
 
 -- a string whose range is stored was read in the string table, and lies at that range
 string_is : (bytes : List ℕ) (range : GoblinRange) (offset : ℕ) (strings : List ℕ) (place : GoblinRange)
     → strings_expected bytes range ≡ Ok strings → string_utf8_expected bytes range offset ≡ Ok (Some place)
     → (text : List ℕ) × (offset < length strings) × (plain strings 0 offset ≡ Ok text) × (bytes_in bytes place ≡ text)
-string_is bytes range offset strings place found is =
-    let steps = one_converted (nat_le (length strings) offset) (range.offset + offset) (plain strings 0 offset)
-    (place_of range offset) place
-    (rw found at is) in
-    let before : offset < length strings = grind (arith, nat_tests, steps.1) in
-    let there = text_there bytes range offset strings steps.0 found before steps.2 in
-    (steps.0, before, steps.2, ap (bytes_in bytes) steps.3 ∙ there)
+string_is bytes range offset strings place found is = grind (arith, nat_tests, bytes_in, one_converted, in_range, piece_there)
 
 -- there is a string table if there is one of its strings
 strings_there : (bytes : List ℕ) (range : GoblinRange) (offset : ℕ) (place : GoblinRange)
@@ -96,23 +76,19 @@ strings_there bytes range offset place (Ok strings) found is =
 strings_there bytes range offset place (Err e) found is = let refused = rw found at is in absurd (cc)
 
 pub strings_are_there : StringsAreThere
-strings_are_there bytes range offset place is =
-    strings_there bytes range offset place (strings_expected bytes range) refl is
+strings_are_there bytes range offset place is = grind (arith, nat_tests, strings_there)
 
 -- the bytes at the range of a string are the piece at its offset
 pub piece_is_there : (bytes : List ℕ) (range : GoblinRange) (offset : ℕ) (strings : List ℕ)
     → strings_expected bytes range ≡ Ok strings → offset < length strings
     → bytes_in bytes (place_of range offset (piece strings 0 offset)) ≡ piece strings 0 offset
-piece_is_there bytes range offset strings found before =
-    let of_range = (in_range bytes range strings found).0 in
-    rw of_range (piece_there bytes range offset (subst (λ (xs : List ℕ). offset < length xs) of_range before))
+piece_is_there bytes range offset strings found before = grind (arith, nat_tests, in_range, piece_there)
 
 -- the range that a call stores for a string is that of the piece
 range_is_there : (bytes : List ℕ) (range : GoblinRange) (offset : ℕ) (strings : List ℕ) (place : GoblinRange)
     → strings_expected bytes range ≡ Ok strings → string_expected bytes range offset ≡ Ok (Some place)
     → (offset < length strings) × (place ≡ place_of range offset (piece strings 0 offset))
-range_is_there bytes range offset strings place found is =
-    (grind (arith, nat_tests), grind (arith, nat_tests))
+range_is_there bytes range offset strings place found is = grind (arith, nat_tests)
 
 -- a string has a name where the piece is the name, which is if a call stores the range of a string with these bytes
 named-Decides : (bytes : List ℕ) (names : GoblinRange) (name strings : List ℕ) (offset : ℕ)
@@ -241,30 +217,16 @@ pub range_lies : (bytes : List ℕ) (range found : GoblinRange)
     → range_expected bytes range ≡ Ok (Some found) → LiesIn bytes found
 range_lies bytes range found is = grind (arith, fits-room_of (length bytes) range.offset range.size)
 
--- a piece is no longer than the strings from its offset on
-pub piece_short : (strings : List ℕ) (offset : ℕ) → length (piece strings 0 offset) ≤ length strings - offset
-unfolding piece
-piece_short strings offset =
-    let rest = drop offset strings in
-    omega (arith, length-drop offset strings, length-take (position_or_len (λ b. b == 0) rest) rest)
-
 pub bytes_lie_in_file : BytesLieInFile
-bytes_lie_in_file = record {
-  section = λ bytes s found is. grind (arith, range_lies bytes s.file found);
-  segment = λ bytes s found is. grind (arith, range_lies bytes s.file found);
-  string = λ bytes range offset found is.
-      grind (arith, nat_tests, in_range bytes range, piece_short, length-take, length-drop);
-}
+unfolding piece
+bytes_lie_in_file = grind (arith, nat_tests, in_range, length-drop, length-take, range_lies)
 
 pub empty_have_no_bytes : EmptyHaveNoBytes
-empty_have_no_bytes = record {
-  section = λ bytes s is. grind (arith, nat_tests, is);
-  segment = λ bytes s is. grind (arith, nat_tests, is);
-}
+empty_have_no_bytes = grind (arith, nat_tests)
 
 -- a string that is text lies where its bytes do
 pub strings_are_bytes : StringsAreBytes
-strings_are_bytes bytes range offset found is = grind (arith, nat_tests, plain_is)
+strings_are_bytes bytes range offset found is = grind (arith, nat_tests)
 
 -- and one that is UTF-8 is read as text
 utf8_from : (bytes : List ℕ) (range : GoblinRange) (offset : ℕ) (found : GoblinRange)
@@ -282,11 +244,123 @@ utf8_from bytes range offset found (Ok strings) read is text =
 utf8_from bytes range offset found (Err e) read is text = let refused = rw read at is in absurd (cc)
 
 pub text_is_utf8 : TextIsUtf8
-text_is_utf8 bytes range offset found is text =
-    utf8_from bytes range offset found (strings_expected bytes range) refl is text
+text_is_utf8 bytes range offset found is text = grind (arith, nat_tests, utf8_from)
 
 pub strings_lie_in_file : StringsLieInFile
-strings_lie_in_file bytes range offset found is =
-    bytes_lie_in_file.string bytes range offset found (strings_are_bytes bytes range offset found is)
+strings_lie_in_file bytes range offset found is = grind (arith, nat_tests, bytes_lie_in_file, strings_are_bytes)
 
 pub ruleset place_laws = (bytes_lie_in_file, empty_have_no_bytes, strings_are_bytes, text_is_utf8)
+
+-- ---- The bytes of many strings, each at an offset.
+
+-- the bytes of each string: at an offset in the strings, past them, and of strings that are refused
+pub bytes_there : (bytes : List ℕ) (range : GoblinRange) (offset : ℕ) (strings : List ℕ) (size : ℕ)
+    → strings_expected bytes range ≡ Ok strings → offset < length strings → size ≡ length (piece strings 0 offset)
+    → string_expected bytes range offset
+    ≡ Ok (Some (record { offset = range.offset + offset; size = size }))
+bytes_there bytes range offset strings size found before is = grind (arith, nat_tests)
+
+pub bytes_past : (bytes : List ℕ) (range : GoblinRange) (offset : ℕ) (strings : List ℕ)
+    → strings_expected bytes range ≡ Ok strings → length strings ≤ offset
+    → string_expected bytes range offset ≡ Ok None
+bytes_past bytes range offset strings found past = grind (arith, nat_tests)
+
+pub bytes_refused : (bytes : List ℕ) (range : GoblinRange) (offset : ℕ) (refusal : RefusalAt)
+    → strings_expected bytes range ≡ Err refusal → string_expected bytes range offset ≡ Err refusal
+bytes_refused bytes range offset refusal refused = grind (arith, nat_tests)
+
+-- ---- Strings that a zero byte closes.
+--
+-- If a piece ends before the strings do, the byte after it is the zero byte that ends it (`zero-after`), and no byte
+-- of it is zero (`none-before`). So the range that is stored for it is a C string (`is_c_string`).
+
+-- a string that ends before its strings do
+module _ (bytes : List ℕ) (range : GoblinRange) (offset : ℕ) (strings : List ℕ)
+    (found : strings_expected bytes range ≡ Ok strings)
+    (closed : offset + length (piece strings 0 offset) < length strings) where
+  abbrev rest : List ℕ
+  rest = drop offset strings
+
+  abbrev end : ℕ
+  end = position_or_len (λ b. b == 0) rest
+
+  size : length (piece strings 0 offset) ≡ end
+  unfolding piece
+  size = grind (arith, nat_tests, length-take-le, prefix_len-le-length)
+
+  -- the byte after it is zero
+  zero-after : slice_get bytes (range.offset + offset + length (piece strings 0 offset)) ≡ Some 0
+  zero-after =
+      let k = offset + end in
+      let inside : end < length rest = omega (arith, closed, size, length-drop offset strings) in
+      let is_zero : get_or rest end 0 ≡ 0 = grind (arith, nat_tests, passes_at_first (λ b. b == 0) rest 0 inside) in
+      let there = in_range bytes range strings found in
+      let all = drop range.offset bytes in
+      let few : k < range.size = omega (arith, closed, size, ap length there.0, length-take range.size all) in
+      let within : range.offset + k < length bytes = omega (arith, few, there.1) in
+      let same : range.offset + offset + length (piece strings 0 offset) ≡ range.offset + k = omega (arith, size) in
+      let byte : get_or bytes (range.offset + k) 0 ≡ 0 =
+      rw (
+        ← get_or-drop range.offset bytes k 0,
+        ← get_or-take range.size all k 0 few,
+        ← there.0,
+        ← get_or-drop offset strings end 0,
+      ) is_zero in
+      rw (same, slice_get-get_or bytes (range.offset + k) 0 within, byte) refl
+
+  closed_is : IsCString bytes (place_of range offset (piece strings 0 offset))
+  unfolding piece
+  closed_is = grind (arith, nat_tests, fails_before_first, get_or-take, length-take, piece_is_there, zero-after)
+
+closed_from : (bytes : List ℕ) (range : GoblinRange) (offset : ℕ) (found : GoblinRange)
+    (answer : Result (List ℕ) RefusalAt)
+    → strings_expected bytes range ≡ answer → string_closed_expected bytes range offset ≡ Ok (Some found)
+    → IsCString bytes found
+closed_from bytes range offset found (Ok strings) read is =
+    let closed : offset + length (piece strings 0 offset) < length strings = grind (arith, nat_tests) in
+    let same : place_of range offset (piece strings 0 offset) ≡ found = grind (arith, nat_tests) in
+    subst (IsCString bytes) same (closed_is bytes range offset strings read closed)
+closed_from bytes range offset found (Err e) read is = let refused = rw read at is in absurd (cc)
+
+-- of the first bytes the last one is the last zero byte, or it doesn't count
+pub closed_last : (bytes : List ℕ) (n : ℕ)
+    → n < length bytes
+    → closed_len (take (suc n) bytes) ≡ (if slice_index bytes n == 0 then suc n else closed_len (take n bytes))
+closed_last [] n before = absurd (omega (arith, before))
+closed_last (b ∷ rest) zero before = grind (arith, nat_tests)
+closed_last (b ∷ rest) (suc n) before =
+    let inside : n < length rest = omega (arith, before) in
+    let own = closed_last rest n inside in
+    grind (arith, nat_tests, own)
+
+pub closed_shorter : (bytes : List ℕ) (n : ℕ)
+    → 0 < n → n ≤ length bytes → slice_index bytes (n - 1) ≢ 0
+    → closed_len (take n bytes) ≡ closed_len (take (n - 1) bytes)
+closed_shorter bytes zero some few other = absurd (omega (arith, some))
+closed_shorter bytes (suc n) some few other =
+    let last = closed_last bytes n (omega (arith, few)) in grind (arith, nat_tests, last)
+
+pub closed_whole : (bytes : List ℕ) (n : ℕ)
+    → 0 < n → n ≤ length bytes → slice_index bytes (n - 1) ≡ 0 → closed_len (take n bytes) ≡ n
+closed_whole bytes zero some few is = absurd (omega (arith, some))
+closed_whole bytes (suc n) some few is =
+    let last = closed_last bytes n (omega (arith, few)) in grind (arith, nat_tests, last)
+
+-- what a call stores at 0 is a C string
+pub is_c_string : (bytes : List ℕ) (range : GoblinRange) (offset : ℕ) (result : Result (Option GoblinRange) Refused)
+    (old new : GoblinRange) (was why : GoblinRefusal) (status : ℕ)
+    → Returns (λ found. found) result (string_closed_expected bytes range offset)
+    → Stores (refuse_as refusal_at result) old was status new why → status ≡ 0 → IsCString bytes new
+is_c_string bytes range offset result old new was why status is stores ok =
+    closed_from bytes range offset new (strings_expected bytes range) refl
+    (sym (expected_is result (string_closed_expected bytes range offset) is)
+    ∙ (stored_item (refuse_as refusal_at result) old new was why status stores ok).0)
+
+-- a string that ends before the strings do is closed
+pub closed_there : (bytes : List ℕ) (range : GoblinRange) (offset : ℕ) (strings : List ℕ) (size : ℕ)
+    → strings_expected bytes range ≡ Ok strings → offset < length strings → size ≡ length (piece strings 0 offset)
+    → size ≢ length strings - offset
+    → string_closed_expected bytes range offset
+    ≡ Ok (Some (record { offset = range.offset + offset; size = size }))
+unfolding piece
+closed_there bytes range offset strings size found before is other = grind (arith, nat_tests, length-drop, length-take, size)

@@ -1,15 +1,18 @@
--- The expected results of the calls for the dynamic section: its range, its entries, the value of a tag, and the range
--- of its strings.
+-- The dynamic section: its range, its entries, the value of a tag, the range of its strings, and as an entry is put.
+use Rattle.goblin_c.specs.Common.{Dyn, GoblinDyn, GoblinHeader, GoblinRange, Layout, Misfit, ProgramHeader}
+use Rattle.goblin_c.specs.Common.{SectionHeader, option_map, refusal_of, refuse_as, ◌>>=◌}
+use Rattle.goblin_c.specs.{File.ctx_of, Items.count_of, Items.first_item, Items.item_at, Numbers.LiesIn}
+use Rattle.goblin_c.specs.{Numbers.range_expected, Puts.Put, Puts.misfit_from, Puts.put_at, Puts.put_if_there}
+use Rattle.goblin_c.specs.{Results.RefusalAt, Results.refused_at, Sections.sections_expected}
+use Rattle.goblin_c.specs.{Segments.segments_expected}
 use Rattle.goblin_dynamic.specs.Dynamic.{dynamic_range, dynamic_section_range, entries_in, entries_up_to_null}
-use Rattle.goblin_dynamic.specs.Dynamic.{strings_range, strings_section_range, whole_entries_in}
-use Rattle.goblin_dynamic.specs.declared.dynamic.FileRange.{FileRange}
-use Rattle.std.specs.Prelude.{ℕ, ◌==◌, List, [], ◌∷◌, drop, map, Option, Some, None, Result, Ok}
-use Rattle.goblin_c.specs.Common.{◌>>=◌, refusal_of, refuse_as, GoblinHeader, GoblinRange, Dyn, GoblinDyn}
-use Rattle.goblin_c.specs.Common.{ProgramHeader, SectionHeader}
-use Rattle.goblin_c.specs.Bytes.{range_expected}
-use Rattle.goblin_c.specs.Expected.{count_of, ctx_of, first_item, item_at, sections_expected, segments_expected}
-use Rattle.goblin_c.specs.Refused.{RefusalAt, refused_at}
-use Rattle.goblin_c.specs.Types.{dyn_converted}
+use Rattle.goblin_dynamic.specs.Dynamic.{first_value, strings_range, strings_section_range, whole_entries_in}
+use Rattle.goblin_dynamic.specs.{Dyn.entry, Dyn.entry_layout, declared.dynamic.FileRange.FileRange}
+use Rattle.std.specs.Prelude.{List, None, Ok, Option, Result, Some, [], drop, length, map, ℕ, ◌==◌, ◌∷◌, ◌≡◌, ◌≤◌}
+
+-- an entry of the dynamic section for C
+abbrev pub dyn_converted : Dyn → GoblinDyn
+dyn_converted d = record { d_tag = d.d_tag; d_val = d.d_val }
 
 -- a range from C, and one for C
 abbrev pub file_range_of : GoblinRange → FileRange
@@ -84,3 +87,51 @@ dynamic_strings_expected bytes h range = do
   segments ← segments_expected bytes h
   found ← or_sections segments (strings_range entries segments) strings_section_range (sections_expected bytes h)
   range_in_file bytes found
+
+-- an entry of the dynamic section is put at an index of those that lie in the range whole
+abbrev pub dyn_of : GoblinDyn → Dyn
+dyn_of own = record { d_tag = own.d_tag; d_val = own.d_val }
+
+abbrev pub dyn_layout : GoblinHeader → Layout Dyn
+dyn_layout h = entry_layout (ctx_of h).container (ctx_of h).le
+
+abbrev pub DynFits : GoblinHeader → GoblinDyn → Type 0
+DynFits h d = (dyn_layout h).Fits (dyn_of d)
+
+abbrev pub dyn_misfit : Dyn → Misfit
+dyn_misfit d = misfit_from 0 ((entry 4).fields d)
+
+abbrev pub dyn_put_expected : List ℕ → GoblinHeader → GoblinRange → ℕ → GoblinDyn → Option Misfit → Put
+dyn_put_expected bytes h range index d misfit =
+    put_if_there (entry_expected bytes h range index) (put_at (dyn_layout h) bytes range.offset index (dyn_of d) misfit)
+
+-- the entries that are stored from an index on are those of the library's list, if it does not end before the index
+abbrev pub EntriesAreListed : Type 0
+EntriesAreListed =
+    (bytes : List ℕ) (h : GoblinHeader) (range : GoblinRange) (first : ℕ) (entries : List Dyn)
+    → entries_expected bytes h range ≡ Ok entries → first ≤ length entries
+    → entries_from_expected bytes h range first ≡ Ok (unless_empty (map dyn_converted (drop first entries)))
+
+-- the number that is stored is how many entries the library's list has
+abbrev pub EntriesAreCounted : Type 0
+EntriesAreCounted =
+    (bytes : List ℕ) (h : GoblinHeader) (range : GoblinRange) (entries : List Dyn)
+    → entries_expected bytes h range ≡ Ok entries
+    → dynamic_count_expected bytes h range ≡ Ok (Some (length entries))
+
+-- the value that is stored from index 0 on is the library's first one with the tag
+abbrev pub ValueIsTheFirst : Type 0
+ValueIsTheFirst =
+    (bytes : List ℕ) (h : GoblinHeader) (range : GoblinRange) (tag : ℕ) (entries : List Dyn)
+    → entries_expected bytes h range ≡ Ok entries
+    → (dynamic_value_expected bytes h range tag 0 >>= λ found. Ok (option_map (λ p. p.1) found))
+    ≡ Ok (first_value tag entries)
+
+-- the ranges that are stored lie in the file
+pub record DynamicLiesInFile : Type 0 where
+  pub dynamic :
+      (bytes : List ℕ) (h : GoblinHeader) (found : GoblinRange)
+      → dynamic_expected bytes h ≡ Ok (Some found) → LiesIn bytes found
+  pub strings :
+      (bytes : List ℕ) (h : GoblinHeader) (range found : GoblinRange)
+      → dynamic_strings_expected bytes h range ≡ Ok (Some found) → LiesIn bytes found

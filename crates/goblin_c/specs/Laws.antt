@@ -1,144 +1,23 @@
--- Laws of the calls: the items that they store one by one are those that the library reads at once.
-use Rattle.std.specs.Prelude.{◌≡◌, ◌≢◌, ◌⊎◌, ◌+◌, ◌-◌, ◌/◌, ◌<◌, ◌≤◌, ℕ, zero, suc, min, Bool, true, false, List, []}
-use Rattle.std.specs.Prelude.{◌∷◌, if◌then◌else◌, length, take, drop, slice_get, Option, Some, None, Result, Ok, Err}
-use Rattle.std.specs.Prelude.{IsOk}
-use Rattle.goblin_c.specs.Common.{option_map, Ctx, InvalidClass, InvalidEndianness, Refusal, refusal_of, ◌>>=◌}
-use Rattle.goblin_c.specs.Common.{refuse_as, plain, Header, class_of, order_of, program_headers_from, read_header}
-use Rattle.goblin_c.specs.Common.{is_of_mips64el, relocs_of, is_table, section_headers_of, Sym, sym_size, symtab_of}
-use Rattle.goblin_c.specs.Common.{segment_count, ProgramHeader, GoblinHeader, GoblinNote, GoblinRange, GoblinReloc}
-use Rattle.goblin_c.specs.Common.{GoblinSection, GoblinSegment, GoblinSymbol, bytes_eq, is_utf8, NoteParts}
-use Rattle.goblin_c.specs.Common.{IsBytes, has_name}
-use Rattle.goblin.specs.WholePart.{whole_header as library_whole}
-use Rattle.goblin.specs.declared.elf.note.NoteDataIterator.{NoteDataIterator}
-use Rattle.goblin.specs.declared.elf.note.NotePart.TheVariants as part
-use Rattle.goblin.specs.Nhdr.{nhdr32_size}
-use Rattle.goblin.specs.Notes.{items_left}
-use Rattle.goblin_c.specs.Refused.{RefusalAt, refused_at}
-use Rattle.goblin_c.specs.Expected.{ctx_of, is_mips64el, section_by_type_expected, section_count_expected}
-use Rattle.goblin_c.specs.Expected.{section_expected, segment_count_expected, segment_expected, symbol_expected}
-use Rattle.goblin_c.specs.Expected.{reloc_expected, string_utf8_expected, symbol_count_expected, reloc_count_expected}
-use Rattle.goblin_c.specs.Expected.{sections_from_expected, symbols_from_expected, relocs_from_expected}
-use Rattle.goblin_c.specs.Expected.{names_section_expected, section_by_name_expected, symbol_by_name_expected}
-use Rattle.goblin_c.specs.Expected.{segments_from_expected, string_is_expected, string_starts_expected, passes}
-use Rattle.goblin_c.specs.Expected.{strings_expected, table_expected, whole_header, first_item, sections_expected}
-use Rattle.goblin_c.specs.Expected.{symbols_expected}
-use Rattle.goblin_c.specs.Bytes.{section_range_expected, segment_range_expected, string_expected}
-use Rattle.goblin_c.specs.FilledBuffer.{closed, laid}
-use Rattle.goblin_c.specs.Notes.{note_expected, note_whole_expected, note_utf8_expected, part_number}
-use Rattle.goblin_c.specs.Types.{header_converted, refusal_converted, reloc_converted, section_converted}
-use Rattle.goblin_c.specs.Types.{segment_converted, symbol_converted}
-
--- the bytes of a file in a range
-abbrev pub bytes_in : List ℕ → GoblinRange → List ℕ
-bytes_in bytes range = take range.size (drop range.offset bytes)
-
--- the note that a file has at the ranges of a stored one
-abbrev pub note_in : List ℕ → GoblinNote → NoteParts
-note_in bytes found =
-    record { n_type = found.n_type; name = bytes_in bytes found.name; desc = bytes_in bytes found.desc }
-
--- the items of which a call stores the first: none; this note and those from the next offset on; or a refusal alone
-abbrev pub items_reported :
-    List ℕ
-    → Result (Option GoblinNote) RefusalAt → (ℕ → List (Result NoteParts Refusal)) → List (Result NoteParts Refusal)
-items_reported bytes (Ok None) rest = []
-items_reported bytes (Ok (Some found)) rest = Ok (note_in bytes found) ∷ rest found.next
-items_reported bytes (Err why) rest = Err why.refusal ∷ []
-
--- the library's iterator goes over the file's notes in this range, with this alignment
-abbrev pub IsOver : NoteDataIterator → GoblinHeader → GoblinRange → ℕ → Type 0
-IsOver notes h range alignment = (notes.size ≡ range.offset + range.size) × (notes.ctx ≡ (alignment, ctx_of h))
-
--- the items that the iterator has left are those of which the call at its offset stores the first, and the next offset
--- is where the iterator goes on
-abbrev pub NotesAreItems : Type 0
-NotesAreItems =
-    (notes : NoteDataIterator) (h : GoblinHeader) (range : GoblinRange) (alignment : ℕ)
-    → IsOver notes h range alignment
-    → let found = note_utf8_expected notes.bytes.now h range alignment notes.offset in
-    items_left notes ≡ items_reported notes.bytes.now found (λ next. items_left (record notes { offset = next }))
-
--- the items that so many calls store: the first at an offset, and each other at the next offset of the one before
-abbrev pub notes_reported : ℕ → List ℕ → GoblinHeader → GoblinRange → ℕ → ℕ → List (Result NoteParts Refusal)
-notes_reported zero bytes h range alignment offset = []
-notes_reported (suc calls) bytes h range alignment offset =
-    items_reported bytes (note_utf8_expected bytes h range alignment offset)
-    (notes_reported calls bytes h range alignment)
-
--- so many calls, one after another from the iterator's offset on, store the first so many items that it has left
-abbrev pub NotesInARow : Type 0
-NotesInARow =
-    (calls : ℕ) (notes : NoteDataIterator) (h : GoblinHeader) (range : GoblinRange) (alignment : ℕ)
-    → IsOver notes h range alignment
-    → notes_reported calls notes.bytes.now h range alignment notes.offset ≡ take calls (items_left notes)
-
--- a range lies in a file
-abbrev pub LiesIn : List ℕ → GoblinRange → Type 0
-LiesIn bytes range = range.offset + range.size ≤ length bytes
-
--- the name and the descriptor of a note that a call stores lie in the file, and the next offset is past the header of
--- this note
-abbrev pub NotesLieInFile : Type 0
-NotesLieInFile =
-    (bytes : List ℕ) (h : GoblinHeader) (range : GoblinRange) (alignment offset : ℕ) (found : GoblinNote)
-    → note_expected bytes h range alignment offset ≡ Ok (Some found)
-    → LiesIn bytes found.name × LiesIn bytes found.desc × (offset + nhdr32_size ≤ found.next)
-
--- the number of a refusal's kind, which a call returns, is above 1
-abbrev pub KindsAreAboveOne : Type 0
-KindsAreAboveOne = (refusal : RefusalAt) → 1 < (refusal_converted refusal).kind
-
--- a file has this header
-abbrev pub HasHeader : List ℕ → Header → Type 0
-HasHeader bytes h = (size : ℕ) × (read_header bytes ≡ Ok (h, size))
-
--- the library names by a header this class and this byte order
-abbrev pub NamesContext : Header → Ctx → Type 0
-NamesContext h ctx =
-    (class_of InvalidClass h.e_ident ≡ Ok ctx.container) × (order_of InvalidEndianness h.e_ident ≡ Ok ctx.le)
-
--- the header that C has of a file gives the class and the byte order that the library reads from the header itself,
--- and is one of a little endian MIPS64 file exactly if the header is
-abbrev pub ContextIsTheHeaders : Type 0
-ContextIsTheHeaders =
-    (bytes : List ℕ) (h : Header) → HasHeader bytes h
-    → NamesContext h (ctx_of (header_converted h)) × (is_mips64el (header_converted h) ≡ is_of_mips64el h)
-
--- a call has this refusal at each index
-abbrev pub RefusesAll : {Y : Type 0} → (ℕ → Result (Option Y) RefusalAt) → RefusalAt → Type 0
-RefusesAll call refusal = (index : ℕ) → call index ≡ Err refusal
-
--- a call stores each item of a list at its index, and none after them; or at each index it has the refusal of the list
-abbrev pub ReturnsEach :
-    {X Y : Type 0} → (X → Y) → Result (List X) RefusalAt → (ℕ → Result (Option Y) RefusalAt) → Type 0
-ReturnsEach convert (Ok items) call = (index : ℕ) → call index ≡ Ok (option_map convert (slice_get items index))
-ReturnsEach convert (Err refusal) call = RefusesAll call refusal
-
--- a call stores how many items a list has, or has the refusal of the list
-abbrev pub ReturnsCount : {X : Type 0} → Result (List X) RefusalAt → Result (Option ℕ) RefusalAt → Type 0
-ReturnsCount (Ok items) answer = answer ≡ Ok (Some (length items))
-ReturnsCount (Err refusal) answer = answer ≡ Err refusal
-
--- the section headers of a file by index are the library's list, and the count is its length
-abbrev pub SectionsByIndex : Type 0
-SectionsByIndex =
-    (bytes : List ℕ) (h : Header) (ctx : Ctx) → HasHeader bytes h → NamesContext h ctx
-    → let sections = refused_at h.e_shoff (section_headers_of bytes h.e_shoff h.e_shnum ctx) in
-    ReturnsEach section_converted sections (section_expected bytes (header_converted h))
-    × ReturnsCount sections (section_count_expected bytes (header_converted h))
-
--- the program headers of the library's list, of as many as the file states
-abbrev pub segments_in : List ℕ → Header → Ctx → Result (List ProgramHeader) RefusalAt
-segments_in bytes h ctx = do
-  count ← refused_at h.e_shoff (refuse_as refusal_of (segment_count bytes h.e_phnum h.e_shoff ctx))
-  refused_at h.e_phoff (program_headers_from bytes h.e_phoff count ctx)
-
--- the program headers of a file by index are the library's list, and the count is its length
-abbrev pub SegmentsByIndex : Type 0
-SegmentsByIndex =
-    (bytes : List ℕ) (h : Header) (ctx : Ctx) → HasHeader bytes h → NamesContext h ctx
-    → ReturnsEach segment_converted (segments_in bytes h ctx) (segment_expected bytes (header_converted h))
-    × ReturnsCount (segments_in bytes h ctx) (segment_count_expected bytes (header_converted h))
+-- Laws of calls for several kinds of items.
+use Rattle.goblin_c.specs.Common.{Dyn, GoblinDyn, GoblinHeader, GoblinRange, GoblinReloc, GoblinSection, GoblinSegment}
+use Rattle.goblin_c.specs.Common.{GoblinSymbol, IsBytes, Misfit, ProgramHeader, Reloc, SectionHeader, Sym, has_name}
+use Rattle.goblin_c.specs.Common.{is_utf8, plain, ◌>>=◌}
+use Rattle.goblin_c.specs.Dynamic.{DynFits, dyn_layout, dyn_of, dyn_put_expected, entry_expected}
+use Rattle.goblin_c.specs.Numbers.{IsRange, LiesIn, number_expected, number_in_expected, number_in_put_expected}
+use Rattle.goblin_c.specs.Relocs.{RelocFits, reloc_converted, reloc_count_expected, reloc_expected, reloc_layout}
+use Rattle.goblin_c.specs.Relocs.{reloc_of, reloc_put_expected, relocs_expected, relocs_from_expected}
+use Rattle.goblin_c.specs.Sections.{SectionFits, section_by_name_expected, section_converted, section_count_expected}
+use Rattle.goblin_c.specs.Sections.{section_expected, section_layout, section_of, section_put_expected}
+use Rattle.goblin_c.specs.Sections.{section_range_expected, sections_expected, sections_from_expected}
+use Rattle.goblin_c.specs.Segments.{SegmentFits, segment_converted, segment_count_expected, segment_expected}
+use Rattle.goblin_c.specs.Segments.{segment_layout, segment_of, segment_put_expected, segment_range_expected}
+use Rattle.goblin_c.specs.Symbols.{SymbolFits, symbol_by_name_expected, symbol_converted, symbol_count_expected}
+use Rattle.goblin_c.specs.Symbols.{symbol_expected, symbol_layout, symbol_of, symbol_put_expected, symbols_expected}
+use Rattle.goblin_c.specs.{File.whole_header, Items.GivenFrom, Items.first_item, Numbers.number_put_expected}
+use Rattle.goblin_c.specs.{Puts.ChangesOnly, Puts.IsUnfit, Results.RefusalAt, Segments.segments_from_expected}
+use Rattle.goblin_c.specs.{Strings.string_expected, Strings.strings_expected, Symbols.symbols_from_expected}
+use Rattle.std.specs.Prelude.{Bool, IsOk, List, None, Ok, Option, Result, Some, length, slice_get, true, ℕ, ◌*◌, ◌+◌}
+use Rattle.std.specs.Prelude.{◌≡◌, ◌≢◌, ◌⊎◌}
 
 -- with another header a call isn't refused, and stores what it stores with the plain one if that isn't refused
 abbrev pub KeepsWhatIsRead : {Y : Type 0} → Result Y RefusalAt → Result Y RefusalAt → Type 0
@@ -162,43 +41,6 @@ pub record WholeKeeps (bytes : List ℕ) (h : GoblinHeader) : Type 0 where
 abbrev pub WholeHeaderKeeps : Type 0
 WholeHeaderKeeps = (bytes : List ℕ) (h : GoblinHeader) → WholeKeeps bytes h
 
--- of a file's own header it is the one that the library makes
-abbrev pub WholeHeaderIsTheLibrarys : Type 0
-WholeHeaderIsTheLibrarys =
-    (bytes : List ℕ) (h : Header) (ctx : Ctx) → HasHeader bytes h → NamesContext h ctx
-    → whole_header bytes (header_converted h) ≡ header_converted (library_whole bytes h ctx)
-
--- the symbols of the library's table in a range, of as many as lie in it whole
-abbrev pub symbols_in : List ℕ → GoblinRange → Ctx → Result (List Sym) RefusalAt
-symbols_in bytes range ctx = let count = range.size / sym_size ctx.container in do
-  table ← refused_at range.offset (refuse_as refusal_of (symtab_of bytes range.offset count ctx))
-  Ok table.symbols
-
--- the symbols of a range by index are those of the library's table, and the count is their number
-abbrev pub SymbolsByIndex : Type 0
-SymbolsByIndex =
-    (bytes : List ℕ) (h : Header) (ctx : Ctx) (range : GoblinRange) → HasHeader bytes h → NamesContext h ctx
-    → ReturnsEach symbol_converted (symbols_in bytes range ctx) (symbol_expected bytes (header_converted h) range)
-    × ReturnsCount (symbols_in bytes range ctx) (symbol_count_expected bytes (header_converted h) range)
-
--- the relocations of a range by index are the library's list, and the count is its length
-abbrev pub RelocsByIndex : Type 0
-RelocsByIndex =
-    (bytes : List ℕ) (h : Header) (ctx : Ctx) (range : GoblinRange) (is_rela : Bool)
-    → HasHeader bytes h → NamesContext h ctx
-    → let found = relocs_of bytes range.offset range.size is_rela ctx (is_of_mips64el h) in
-    let relocs = refused_at range.offset (refuse_as refusal_of found) in
-    ReturnsEach reloc_converted relocs (reloc_expected bytes (header_converted h) range is_rela)
-    × ReturnsCount relocs (reloc_count_expected bytes (header_converted h) range is_rela)
-
--- the items from an index on, one at least, are those that a call stores there one by one, and it stores none after
--- them; or the call stores none there, or has the same refusal at each index
-abbrev pub GivenFrom :
-    {Y : Type 0} → ℕ → (ℕ → Result (Option Y) RefusalAt) → Result (Option (List Y)) RefusalAt → Type 0
-GivenFrom first call (Ok (Some items)) = (0 < length items) × ((k : ℕ) → call (first + k) ≡ Ok (slice_get items k))
-GivenFrom first call (Ok None) = (k : ℕ) → call (first + k) ≡ Ok None
-GivenFrom first call (Err refusal) = RefusesAll call refusal
-
 -- the calls that fill a buffer store from each index on what the calls by index store
 pub record FilledByIndex : Type 0 where
   pub sections :
@@ -213,119 +55,6 @@ pub record FilledByIndex : Type 0 where
   pub relocs :
       (bytes : List ℕ) (h : GoblinHeader) (range : GoblinRange) (is_rela : Bool) (first : ℕ)
       → GivenFrom first (reloc_expected bytes h range is_rela) (relocs_from_expected bytes h range is_rela first)
-
--- a buffer is as long as it was: it holds as many of these items as fit, and is unchanged after them
-abbrev pub IsFilled : {X : Type 0} → List X → List X → List X → Type 0
-IsFilled items old new =
-    let filled = min (length items) (length old) in
-    (length new ≡ length old)
-    × ((k : ℕ) → k < filled → slice_get new k ≡ slice_get items k)
-    × ((k : ℕ) → filled ≤ k → slice_get new k ≡ slice_get old k)
-
--- so is the buffer that calls fill with bytes, sections, segments, symbols and relocations
-pub record BufferIsFilled : Type 0 where
-  pub bytes : (text old : List ℕ) → IsFilled text old (laid text old)
-  pub sections : (sections old : List GoblinSection) → IsFilled sections old (laid sections old)
-  pub segments : (segments old : List GoblinSegment) → IsFilled segments old (laid segments old)
-  pub symbols : (symbols old : List GoblinSymbol) → IsFilled symbols old (laid symbols old)
-  pub relocs : (relocs old : List GoblinReloc) → IsFilled relocs old (laid relocs old)
-
--- the bytes of the range that a call stores for a string are the string that the library reads in the string table
-abbrev pub StringsAreThere : Type 0
-StringsAreThere =
-    (bytes : List ℕ) (range : GoblinRange) (offset : ℕ) (found : GoblinRange)
-    → string_utf8_expected bytes range offset ≡ Ok (Some found)
-    → (strings_expected bytes range >>= λ strings. refused_at (range.offset + offset) (plain strings 0 offset))
-    ≡ Ok (bytes_in bytes found)
-
--- the range that a call stores for a string lies in the file
-abbrev pub StringsLieInFile : Type 0
-StringsLieInFile =
-    (bytes : List ℕ) (range : GoblinRange) (offset : ℕ) (found : GoblinRange)
-    → string_utf8_expected bytes range offset ≡ Ok (Some found) → LiesIn bytes found
-
--- a section, if it is a table that others name by its index
-abbrev pub section_if_table : ℕ → Option GoblinSection → Option GoblinSection
-section_if_table index (Some section) = if is_table index section.sh_type then Some section else None
-section_if_table index None = None
-
-abbrev pub table_converted : ℕ → Result (Option GoblinSection) RefusalAt → Result (Option GoblinSection) RefusalAt
-table_converted index found = do
-  section ← found
-  Ok (section_if_table index section)
-
--- the table at each index is the section there, where that is one
-abbrev pub TablesByIndex : Type 0
-TablesByIndex =
-    (bytes : List ℕ) (h : GoblinHeader) (index : ℕ)
-    → table_expected bytes h index ≡ table_converted index (section_expected bytes h index)
-
--- the section that holds the sections' names is the table with the index in the header; where this is 0xffff it is that
--- with the index that the first section links to
-abbrev pub NamesByIndex : Type 0
-NamesByIndex =
-    (bytes : List ℕ) (h : GoblinHeader)
-    → (h.e_shstrndx ≢ 0xffff → names_section_expected bytes h ≡ table_expected bytes h h.e_shstrndx)
-    × ((first : GoblinSection) → h.e_shstrndx ≡ 0xffff → section_expected bytes h 0 ≡ Ok (Some first)
-    → names_section_expected bytes h ≡ table_expected bytes h first.sh_link)
-
--- a call stores a range for the string at an offset, whose bytes are this name
-abbrev pub IsNameAt : List ℕ → GoblinRange → ℕ → List ℕ → Type 0
-IsNameAt bytes names offset name =
-    (found : GoblinRange) × (string_expected bytes names offset ≡ Ok (Some found)) × (bytes_in bytes found ≡ name)
-
--- a result is the index of the first item from an index on that a call stores and that is so; or none is so from there
--- on; or it is one of these refusals
-abbrev pub FindsFrom :
-    {Y : Type 0}
-    → ℕ → (ℕ → Result (Option Y) RefusalAt) → (Y → Type 0) → (RefusalAt → Type 0) → Result (Option ℕ) RefusalAt → Type 0
-FindsFrom {Y} first call IsSo Refuses (Ok (Some index)) =
-    (first ≤ index) × ((item : Y) × (call index ≡ Ok (Some item)) × IsSo item)
-    × ((k : ℕ) (item : Y) → first ≤ k → k < index → call k ≡ Ok (Some item) → ¬ IsSo item)
-FindsFrom {Y} first call IsSo Refuses (Ok None) = (k : ℕ) (item : Y) → first ≤ k → call k ≡ Ok (Some item) → ¬ IsSo item
-FindsFrom first call IsSo Refuses (Err refusal) = Refuses refusal
-
--- a result is such an index with the item there
-abbrev pub FindsItemFrom :
-    {Y : Type 0} → ℕ → (ℕ → Result (Option Y) RefusalAt) → (Y → Type 0) → (RefusalAt → Type 0)
-    → Result (Option (ℕ × Y)) RefusalAt → Type 0
-FindsItemFrom first call IsSo Refuses (Ok (Some found)) =
-    FindsFrom first call IsSo Refuses (Ok (Some found.0)) × (call found.0 ≡ Ok (Some found.1))
-FindsItemFrom first call IsSo Refuses (Ok None) = FindsFrom first call IsSo Refuses (Ok None)
-FindsItemFrom first call IsSo Refuses (Err refusal) = Refuses refusal
-
--- a refusal is that of all items, or where none of these is refused, of all strings
-abbrev pub RefusesInTurn :
-    {Y Z : Type 0} → (ℕ → Result (Option Y) RefusalAt) → (ℕ → Result (Option Z) RefusalAt) → RefusalAt → Type 0
-RefusesInTurn call strings refusal =
-    RefusesAll call refusal ⊎ (((k : ℕ) (other : RefusalAt) → call k ≢ Err other) × RefusesAll strings refusal)
-
--- what is found by a name is the first section or symbol from the index on whose name by the calls is this
-abbrev pub SectionsByName : Type 0
-SectionsByName =
-    (bytes : List ℕ) (h : GoblinHeader) (names : GoblinRange) (name : List ℕ) (first : ℕ)
-    → IsBytes bytes
-    → let HasTheName = λ (section : GoblinSection). IsNameAt bytes names section.sh_name name in
-    let Refuses = RefusesInTurn (section_expected bytes h) (string_expected bytes names) in
-    FindsItemFrom first (section_expected bytes h) HasTheName Refuses
-    (section_by_name_expected bytes h names name first)
-
-abbrev pub SymbolsByName : Type 0
-SymbolsByName =
-    (bytes : List ℕ) (h : GoblinHeader) (range names : GoblinRange) (name : List ℕ) (first : ℕ)
-    → IsBytes bytes
-    → let HasTheName = λ (symbol : GoblinSymbol). IsNameAt bytes names symbol.st_name name in
-    let Refuses = RefusesInTurn (symbol_expected bytes h range) (string_expected bytes names) in
-    FindsItemFrom first (symbol_expected bytes h range) HasTheName Refuses
-    (symbol_by_name_expected bytes h range names name first)
-
--- what is found by a type is the first section from the index on that has it
-abbrev pub SectionsByType : Type 0
-SectionsByType =
-    (bytes : List ℕ) (h : GoblinHeader) (sh_type first : ℕ)
-    → let IsOfType = λ (section : GoblinSection). section.sh_type ≡ sh_type in
-    let found = section_by_type_expected bytes h sh_type first in
-    FindsItemFrom first (section_expected bytes h) IsOfType (RefusesAll (section_expected bytes h)) found
 
 -- the ranges that are stored for bytes lie in the file
 pub record BytesLieInFile : Type 0 where
@@ -348,38 +77,15 @@ pub record EmptyHaveNoBytes : Type 0 where
       (bytes : List ℕ) (s : GoblinSegment)
       → (s.p_type ≡ 0) ⊎ (s.file.size ≡ 0) → segment_range_expected bytes s ≡ Ok None
 
--- the range that a call stores for a string is the one that is stored for it, UTF-8 or not
-abbrev pub StringsAreBytes : Type 0
-StringsAreBytes =
-    (bytes : List ℕ) (range : GoblinRange) (offset : ℕ) (found : GoblinRange)
-    → string_utf8_expected bytes range offset ≡ Ok (Some found) → string_expected bytes range offset ≡ Ok (Some found)
-
--- and one that is UTF-8 is stored as such
-abbrev pub TextIsUtf8 : Type 0
-TextIsUtf8 =
-    (bytes : List ℕ) (range : GoblinRange) (offset : ℕ) (found : GoblinRange)
-    → string_expected bytes range offset ≡ Ok (Some found) → is_utf8 (bytes_in bytes found) ≡ true
-    → string_utf8_expected bytes range offset ≡ Ok (Some found)
-
--- whether a range that a call stored has these bytes, and whether it starts with them
-abbrev pub range_is : List ℕ → List ℕ → Option GoblinRange → Bool
-range_is bytes name (Some found) = bytes_eq (bytes_in bytes found) name
-range_is bytes name None = false
-
-abbrev pub range_starts : List ℕ → List ℕ → Option GoblinRange → Bool
-range_starts bytes start (Some found) = bytes_eq (take (length start) (bytes_in bytes found)) start
-range_starts bytes start None = false
-
--- a string that is compared is compared as the bytes at its range are; where none is stored, it is no name and does not
--- start with any bytes
-pub record StringsAreCompared : Type 0 where
-  pub whole :
-      (bytes : List ℕ) (range : GoblinRange) (offset : ℕ) (name : List ℕ)
-      → string_is_expected bytes range offset name ≡ passes (range_is bytes name) (string_expected bytes range offset)
-  pub start :
-      (bytes : List ℕ) (range : GoblinRange) (offset : ℕ) (start : List ℕ)
-      → string_starts_expected bytes range offset start
-      ≡ passes (range_starts bytes start) (string_expected bytes range offset)
+-- a section of another type than 0 and 8 and with a size has the bytes of its range, and so has a segment of another
+-- type than 0 and with a size
+pub record BytesAreFound : Type 0 where
+  pub section :
+      (bytes : List ℕ) (s : GoblinSection)
+      → s.sh_type ≢ 0 → s.sh_type ≢ 8 → s.file.size ≢ 0 → IsRange bytes s.file (section_range_expected bytes s)
+  pub segment :
+      (bytes : List ℕ) (s : GoblinSegment)
+      → s.p_type ≢ 0 → s.file.size ≢ 0 → IsRange bytes s.file (segment_range_expected bytes s)
 
 -- with a name that is UTF-8 a search finds what it finds by strings that are read as UTF-8
 pub record TextIsFound : Type 0 where
@@ -396,34 +102,145 @@ pub record TextIsFound : Type 0 where
       ≡ (symbols_expected bytes h range >>= λ symbols. strings_expected bytes names >>= λ strings.
       Ok (first_item symbol_converted (λ symbol. has_name strings 0 symbol.st_name name) first symbols))
 
--- a text that is shorter than the buffer stands at its start, and a zero byte after it
-abbrev pub TextIsClosed : Type 0
-TextIsClosed =
-    (text old : List ℕ) → length text < length old
-    → (take (length text) (laid (closed text) old) ≡ text)
-    × (slice_get (laid (closed text) old) (length text) ≡ Some 0)
+-- a record that fits and was put is stored by the call that reads it, if the list has as many items as before
+pub record PutsAreRead : Type 0 where
+  pub section :
+      (bytes new : List ℕ) (h : GoblinHeader) (index : ℕ) (s : GoblinSection)
+      → SectionFits h s → section_put_expected bytes h index s None ≡ Ok (Some new)
+      → section_count_expected new h ≡ section_count_expected bytes h
+      → section_expected new h index ≡ Ok (Some s)
+  pub segment :
+      (bytes new : List ℕ) (h : GoblinHeader) (index : ℕ) (s : GoblinSegment)
+      → SegmentFits h s → segment_put_expected bytes h index s None ≡ Ok (Some new)
+      → segment_count_expected new h ≡ segment_count_expected bytes h
+      → segment_expected new h index ≡ Ok (Some s)
+  pub symbol :
+      (bytes new : List ℕ) (h : GoblinHeader) (table : GoblinRange) (index : ℕ) (s : GoblinSymbol)
+      → SymbolFits h s → symbol_put_expected bytes h table index s None ≡ Ok (Some new)
+      → symbol_count_expected new h table ≡ symbol_count_expected bytes h table
+      → symbol_expected new h table index ≡ Ok (Some s)
+  pub reloc :
+      (bytes new : List ℕ) (h : GoblinHeader) (table : GoblinRange) (is_rela : Bool) (index : ℕ) (r : GoblinReloc)
+      → RelocFits h is_rela r → reloc_put_expected bytes h table is_rela index r None ≡ Ok (Some new)
+      → reloc_count_expected new h table is_rela ≡ reloc_count_expected bytes h table is_rela
+      → reloc_expected new h table is_rela index ≡ Ok (Some r)
+  pub entry :
+      (bytes new : List ℕ) (h : GoblinHeader) (range : GoblinRange) (index : ℕ) (d : GoblinDyn)
+      → DynFits h d → dyn_put_expected bytes h range index d None ≡ Ok (Some new)
+      → entry_expected new h range index ≡ Ok (Some (dyn_of d))
 
--- a note that a call stores, and whose descriptor lies in the range, is the one that is stored as a whole note
-abbrev pub WholeNotesAreNotes : Type 0
-WholeNotesAreNotes =
-    (bytes : List ℕ) (h : GoblinHeader) (range : GoblinRange) (alignment offset : ℕ) (note : GoblinNote)
-    → note_utf8_expected bytes h range alignment offset ≡ Ok (Some note)
-    → note.desc.offset + note.desc.size ≤ range.offset + range.size
-    → note_whole_expected bytes h range alignment offset ≡ Ok (Some note)
+-- files of the same length have as many symbols and relocations in a range
+pub record CountsStay : Type 0 where
+  pub symbol :
+      (bytes new : List ℕ) (h : GoblinHeader) (table : GoblinRange)
+      → length new ≡ length bytes → symbol_count_expected new h table ≡ symbol_count_expected bytes h table
+  pub reloc :
+      (bytes new : List ℕ) (h : GoblinHeader) (table : GoblinRange) (is_rela : Bool)
+      → length new ≡ length bytes
+      → reloc_count_expected new h table is_rela ≡ reloc_count_expected bytes h table is_rela
 
--- a note whose name is text is stored by either call, and the same
-pub record NotesAreText : Type 0 where
-  pub bytes :
-      (bytes : List ℕ) (h : GoblinHeader) (range : GoblinRange) (alignment offset : ℕ) (note : GoblinNote)
-      → note_utf8_expected bytes h range alignment offset ≡ Ok (Some note)
-      → note_expected bytes h range alignment offset ≡ Ok (Some note)
-  pub text :
-      (bytes : List ℕ) (h : GoblinHeader) (range : GoblinRange) (alignment offset : ℕ) (note : GoblinNote)
-      → note_expected bytes h range alignment offset ≡ Ok (Some note) → is_utf8 (bytes_in bytes note.name) ≡ true
-      → note_utf8_expected bytes h range alignment offset ≡ Ok (Some note)
+-- only the bytes of the record change
+pub record PutsChangeOne : Type 0 where
+  pub section :
+      (bytes new : List ℕ) (h : GoblinHeader) (index : ℕ) (s : GoblinSection) (misfit : Option Misfit)
+      → section_put_expected bytes h index s misfit ≡ Ok (Some new)
+      → ChangesOnly (h.e_shoff + index * (section_layout h).size) (section_layout h).size bytes new
+  pub segment :
+      (bytes new : List ℕ) (h : GoblinHeader) (index : ℕ) (s : GoblinSegment) (misfit : Option Misfit)
+      → segment_put_expected bytes h index s misfit ≡ Ok (Some new)
+      → ChangesOnly (h.e_phoff + index * (segment_layout h).size) (segment_layout h).size bytes new
+  pub symbol :
+      (bytes new : List ℕ) (h : GoblinHeader) (table : GoblinRange) (index : ℕ) (s : GoblinSymbol)
+      (misfit : Option Misfit)
+      → symbol_put_expected bytes h table index s misfit ≡ Ok (Some new)
+      → ChangesOnly (table.offset + index * (symbol_layout h).size) (symbol_layout h).size bytes new
+  pub reloc :
+      (bytes new : List ℕ) (h : GoblinHeader) (table : GoblinRange) (is_rela : Bool) (index : ℕ) (r : GoblinReloc)
+      (misfit : Option Misfit)
+      → reloc_put_expected bytes h table is_rela index r misfit ≡ Ok (Some new)
+      → let size = (reloc_layout h is_rela).size in ChangesOnly (table.offset + index * size) size bytes new
+  pub entry :
+      (bytes new : List ℕ) (h : GoblinHeader) (range : GoblinRange) (index : ℕ) (d : GoblinDyn) (misfit : Option Misfit)
+      → dyn_put_expected bytes h range index d misfit ≡ Ok (Some new)
+      → ChangesOnly (range.offset + index * (dyn_layout h).size) (dyn_layout h).size bytes new
 
--- the numbers of no part of a note, the header, the name and the descriptor
-abbrev pub PartsAreNumbered : Type 0
-PartsAreNumbered =
-    part_number None ∷ part_number (Some part.Header) ∷ part_number (Some part.Name) ∷ part_number (Some part.Desc) ∷ []
-    ≡ 0 ∷ 4 ∷ 5 ∷ 6 ∷ []
+-- what the call that reads stores fits, and if it is put at its index, no byte changes; a relocation may be put back
+-- so, too
+pub record ReadsArePut : Type 0 where
+  pub section :
+      (bytes : List ℕ) (h : GoblinHeader) (index : ℕ) (s : GoblinSection)
+      → IsBytes bytes → section_expected bytes h index ≡ Ok (Some s)
+      → SectionFits h s × (section_put_expected bytes h index s None ≡ Ok (Some bytes))
+  pub segment :
+      (bytes : List ℕ) (h : GoblinHeader) (index : ℕ) (s : GoblinSegment)
+      → IsBytes bytes → segment_expected bytes h index ≡ Ok (Some s)
+      → SegmentFits h s × (segment_put_expected bytes h index s None ≡ Ok (Some bytes))
+  pub symbol :
+      (bytes : List ℕ) (h : GoblinHeader) (table : GoblinRange) (index : ℕ) (s : GoblinSymbol)
+      → IsBytes bytes → symbol_expected bytes h table index ≡ Ok (Some s)
+      → SymbolFits h s × (symbol_put_expected bytes h table index s None ≡ Ok (Some bytes))
+  pub reloc :
+      (bytes : List ℕ) (h : GoblinHeader) (table : GoblinRange) (is_rela : Bool) (index : ℕ) (r : GoblinReloc)
+      → IsBytes bytes → reloc_expected bytes h table is_rela index ≡ Ok (Some r)
+      → reloc_put_expected bytes h table is_rela index r None ≡ Ok (Some bytes)
+  pub entry :
+      (bytes : List ℕ) (h : GoblinHeader) (range : GoblinRange) (index : ℕ) (d : GoblinDyn)
+      → IsBytes bytes → entry_expected bytes h range index ≡ Ok (Some (dyn_of d))
+      → DynFits h d × (dyn_put_expected bytes h range index d None ≡ Ok (Some bytes))
+
+-- of an item that the library reads C has all
+pub record ItemsAreWhole : Type 0 where
+  pub section :
+      (bytes : List ℕ) (h : GoblinHeader) (sections : List SectionHeader) (index : ℕ) (s : SectionHeader)
+      → IsBytes bytes → sections_expected bytes h ≡ Ok sections → slice_get sections index ≡ Some s
+      → section_of (section_converted s) ≡ s
+  pub segment : (s : ProgramHeader) → segment_of (segment_converted s) ≡ s
+  pub symbol :
+      (bytes : List ℕ) (h : GoblinHeader) (table : GoblinRange) (symbols : List Sym) (index : ℕ) (s : Sym)
+      → IsBytes bytes → symbols_expected bytes h table ≡ Ok symbols → slice_get symbols index ≡ Some s
+      → symbol_of (symbol_converted s) ≡ s
+  pub reloc :
+      (bytes : List ℕ) (h : GoblinHeader) (table : GoblinRange) (is_rela : Bool) (relocs : List Reloc) (index : ℕ)
+      (r : Reloc)
+      → IsBytes bytes → relocs_expected bytes h table is_rela ≡ Ok relocs → slice_get relocs index ≡ Some r
+      → reloc_of is_rela (reloc_converted r) ≡ r
+
+-- so is what doesn't fit, if the call that reads stores an item there
+pub record UnfitAreRefused : Type 0 where
+  pub section :
+      (bytes : List ℕ) (h : GoblinHeader) (index : ℕ) (s found : GoblinSection) (misfit : Misfit)
+      → section_expected bytes h index ≡ Ok (Some found)
+      → let place = h.e_shoff + index * (section_layout h).size in
+      IsUnfit place misfit (section_put_expected bytes h index s (Some misfit))
+  pub segment :
+      (bytes : List ℕ) (h : GoblinHeader) (index : ℕ) (s found : GoblinSegment) (misfit : Misfit)
+      → segment_expected bytes h index ≡ Ok (Some found)
+      → let place = h.e_phoff + index * (segment_layout h).size in
+      IsUnfit place misfit (segment_put_expected bytes h index s (Some misfit))
+  pub symbol :
+      (bytes : List ℕ) (h : GoblinHeader) (table : GoblinRange) (index : ℕ) (s found : GoblinSymbol)
+      (misfit : Misfit)
+      → symbol_expected bytes h table index ≡ Ok (Some found)
+      → let place = table.offset + index * (symbol_layout h).size in
+      IsUnfit place misfit (symbol_put_expected bytes h table index s (Some misfit))
+  pub reloc :
+      (bytes : List ℕ) (h : GoblinHeader) (table : GoblinRange) (is_rela : Bool) (index : ℕ) (r found : GoblinReloc)
+      (misfit : Misfit)
+      → reloc_expected bytes h table is_rela index ≡ Ok (Some found)
+      → let place = table.offset + index * (reloc_layout h is_rela).size in
+      IsUnfit place misfit (reloc_put_expected bytes h table is_rela index r (Some misfit))
+  pub entry :
+      (bytes : List ℕ) (h : GoblinHeader) (range : GoblinRange) (index : ℕ) (d : GoblinDyn) (found : Dyn)
+      (misfit : Misfit)
+      → entry_expected bytes h range index ≡ Ok (Some found)
+      → IsUnfit (range.offset + index * (dyn_layout h).size) misfit
+      (dyn_put_expected bytes h range index d (Some misfit))
+  pub number :
+      (bytes : List ℕ) (h : GoblinHeader) (offset width value found : ℕ) (misfit : Misfit)
+      → number_expected bytes h offset width ≡ Ok (Some found)
+      → IsUnfit offset misfit (number_put_expected bytes h offset width value (Some misfit))
+  pub number_in :
+      (bytes : List ℕ) (h : GoblinHeader) (range : GoblinRange) (offset width value found : ℕ)
+      (misfit : Misfit)
+      → number_in_expected bytes h range offset width ≡ Ok (Some found)
+      → IsUnfit (range.offset + offset) misfit (number_in_put_expected bytes h range offset width value (Some misfit))

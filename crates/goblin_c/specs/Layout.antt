@@ -1,13 +1,10 @@
 -- One of each struct that calls share with C, with marks by which C can check the place of each field.
-use Rattle.std.specs.Prelude.{ℕ, ◌+◌, ◌-◌, ◌*◌, ◌/◌, ◌^◌, pos, [], ◌∷◌}
-use Rattle.goblin.specs.Header.{header_of_values}
-use Rattle.goblin.specs.ProgramHeader.{program_header_of_values}
-use Rattle.goblin.specs.SectionHeader.{section_header_of_values}
-use Rattle.goblin.specs.Sym.{sym_of_values}
-use Rattle.goblin_c.specs.Common.{GoblinRange}
-use Rattle.goblin_c.specs.Types.{dyn_converted, header_converted, note_converted, section_converted, segment_converted}
-use Rattle.goblin_c.specs.Types.{symbol_converted}
-use Rattle.goblin_c.specs.declared.layout.GoblinLayout.{GoblinLayout}
+use Rattle.goblin.specs.{Header.header_of_values, ProgramHeader.program_header_of_values}
+use Rattle.goblin.specs.{SectionHeader.section_header_of_values, Sym.sym_of_values}
+use Rattle.goblin_c.specs.{Common.GoblinRange, Dynamic.dyn_converted, File.header_converted, Notes.note_converted}
+use Rattle.goblin_c.specs.{Sections.section_converted, Segments.segment_converted, Symbols.symbol_converted}
+use Rattle.goblin_c.specs.{declared.layout.GoblinLayout.GoblinLayout}
+use Rattle.std.specs.Prelude.{[], pos, ℕ, ◌*◌, ◌+◌, ◌-◌, ◌/◌, ◌^◌, ◌∷◌}
 
 -- the number of so many bytes, each of which is a mark
 abbrev pub each_byte : ℕ → ℕ → ℕ

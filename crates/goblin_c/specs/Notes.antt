@@ -1,21 +1,26 @@
--- The note that a call stores.
-use Rattle.std.specs.Prelude.{◌≡◌, ℕ, ◌+◌, ◌-◌, nat_le, if◌then◌else◌, List, length, take, drop, Option, Some, None}
-use Rattle.std.specs.Prelude.{Result, Ok, Err}
-use Rattle.goblin_c.specs.Common.{◌>>=◌, GoblinHeader, GoblinNote, GoblinRange, GoblinRefusal, OK, END, PartRefusal}
-use Rattle.goblin_c.specs.Common.{places_at, whole_places, Ctx, Refusal, refusal_of, refuse_as}
-use Rattle.goblin.specs.Nhdr.{nhdr32_of, nhdr32_size}
-use Rattle.goblin.specs.Note.{bytes_at, note_align, note_places}
-use Rattle.goblin.specs.declared.elf.note.NotePlaces.{NotePlaces}
-use Rattle.goblin_base.specs.Record.{read_within}
-use Rattle.goblin_base.specs.declared.container.Endian.{Endian}
-use Rattle.goblin_base.specs.Refusal.{bad_offset}
-use Rattle.goblin_base.specs.Steps.{refuse_if}
-use Rattle.goblin.specs.declared.elf.note.NotePart.{NotePart}
-use Rattle.goblin.specs.declared.elf.note.NotePart.TheVariants.{Header, Name, Desc}
-use Rattle.goblin_c.specs.Refused.{RefusalAt, refused_at}
-use Rattle.goblin_c.specs.Expected.{ctx_of}
-use Rattle.goblin_c.specs.declared.kinds.TheConstants.{NOTE_HEADER, NOTE_NAME, NOTE_DESC}
-use Rattle.goblin_c.specs.Types.{note_converted, refusal_converted}
+-- The notes of a range: as they are read one by one.
+use Rattle.goblin.specs.declared.elf.note.NotePart.TheVariants.{Desc, Header, Name}
+use Rattle.goblin.specs.{Nhdr.nhdr32_of, Nhdr.nhdr32_size, Note.bytes_at, Note.note_align, Note.note_places}
+use Rattle.goblin.specs.{Notes.items_left, declared.elf.note.NoteDataIterator.NoteDataIterator}
+use Rattle.goblin.specs.{declared.elf.note.NotePart.NotePart, declared.elf.note.NotePlaces.NotePlaces}
+use Rattle.goblin_base.specs.{Record.read_within, Refusal.bad_offset, Steps.refuse_if, declared.container.Endian.Endian}
+use Rattle.goblin_c.specs.Common.{Ctx, GoblinHeader, GoblinNote, GoblinRange, GoblinRefusal, NoteParts, PartRefusal}
+use Rattle.goblin_c.specs.Common.{Refusal, is_utf8, places_at, refusal_of, refuse_as, whole_places, ◌>>=◌}
+use Rattle.goblin_c.specs.Results.{RefusalAt, refusal_converted, refused_at}
+use Rattle.goblin_c.specs.declared.results.TheConstants.{NOTE_DESC, NOTE_HEADER, NOTE_NAME}
+use Rattle.goblin_c.specs.{File.ctx_of, Numbers.LiesIn, Numbers.bytes_in}
+use Rattle.std.specs.Prelude.{Err, List, None, Ok, Option, Result, Some, [], drop, if◌then◌else◌, length, nat_le, suc}
+use Rattle.std.specs.Prelude.{take, true, zero, ℕ, ◌+◌, ◌-◌, ◌∷◌, ◌≡◌, ◌≤◌}
+use Rattle.goblin.specs.declared.elf.note.NotePart.TheVariants as part
+
+-- the note at an offset for C, whose parts lie at these places, counted from the offset
+abbrev pub note_converted : ℕ → NotePlaces → GoblinNote
+note_converted offset places = record {
+  name = record { offset = offset + places.name; size = places.name_size };
+  desc = record { offset = offset + places.desc; size = places.desc_size };
+  next = offset + places.next;
+  n_type = places.n_type;
+}
 
 -- the places of the parts of the note at the start of some bytes, which must hold its header, its name without the last
 -- byte, text or not, and its descriptor
@@ -78,10 +83,84 @@ abbrev pub part_converted : ℕ → PartRefusal → GoblinRefusal
 part_converted offset e =
     record (refusal_converted (record { refusal = e.refusal; offset = offset })) { item = part_number e.part }
 
--- what a call returns and stores whose expected result is this note at an offset, as `Stores` says it of other calls
-abbrev pub StoresNote : ℕ
-    → Result (Option GoblinNote) PartRefusal → GoblinNote → GoblinRefusal → ℕ → GoblinNote → GoblinRefusal → Type 0
-StoresNote offset (Ok (Some note)) old was status new why = (status ≡ OK) × (new ≡ note) × (why ≡ was)
-StoresNote offset (Ok None) old was status new why = (status ≡ END) × (new ≡ old) × (why ≡ was)
-StoresNote offset (Err e) old was status new why =
-    (status ≡ (part_converted offset e).kind) × (new ≡ old) × (why ≡ part_converted offset e)
+-- the same result with its refusal for C
+abbrev pub whole_note : List ℕ → GoblinHeader → GoblinRange → ℕ → ℕ → Result (Option GoblinNote) GoblinRefusal
+whole_note bytes h range alignment offset =
+    refuse_as (part_converted offset) (note_whole_expected bytes h range alignment offset)
+
+-- the note that a file has at the ranges of a stored one
+abbrev pub note_in : List ℕ → GoblinNote → NoteParts
+note_in bytes found =
+    record { n_type = found.n_type; name = bytes_in bytes found.name; desc = bytes_in bytes found.desc }
+
+-- the items of which a call stores the first: none; this note and those from the next offset on; or a refusal alone
+abbrev pub items_reported :
+    List ℕ
+    → Result (Option GoblinNote) RefusalAt → (ℕ → List (Result NoteParts Refusal)) → List (Result NoteParts Refusal)
+items_reported bytes (Ok None) rest = []
+items_reported bytes (Ok (Some found)) rest = Ok (note_in bytes found) ∷ rest found.next
+items_reported bytes (Err why) rest = Err why.refusal ∷ []
+
+-- the library's iterator goes over the file's notes in this range, with this alignment
+abbrev pub IsOver : NoteDataIterator → GoblinHeader → GoblinRange → ℕ → Type 0
+IsOver notes h range alignment = (notes.size ≡ range.offset + range.size) × (notes.ctx ≡ (alignment, ctx_of h))
+
+-- the items that the iterator has left are those of which the call at its offset stores the first, and the next offset
+-- is where the iterator goes on
+abbrev pub NotesAreItems : Type 0
+NotesAreItems =
+    (notes : NoteDataIterator) (h : GoblinHeader) (range : GoblinRange) (alignment : ℕ)
+    → IsOver notes h range alignment
+    → let found = note_utf8_expected notes.bytes.now h range alignment notes.offset in
+    items_left notes ≡ items_reported notes.bytes.now found (λ next. items_left (record notes { offset = next }))
+
+-- the items that so many calls store: the first at an offset, and each other at the next offset of the one before
+abbrev pub notes_reported : ℕ → List ℕ → GoblinHeader → GoblinRange → ℕ → ℕ → List (Result NoteParts Refusal)
+notes_reported zero bytes h range alignment offset = []
+notes_reported (suc calls) bytes h range alignment offset =
+    items_reported bytes (note_utf8_expected bytes h range alignment offset)
+    (notes_reported calls bytes h range alignment)
+
+-- so many calls, one after another from the iterator's offset on, store the first so many items that it has left
+abbrev pub NotesInARow : Type 0
+NotesInARow =
+    (calls : ℕ) (notes : NoteDataIterator) (h : GoblinHeader) (range : GoblinRange) (alignment : ℕ)
+    → IsOver notes h range alignment
+    → notes_reported calls notes.bytes.now h range alignment notes.offset ≡ take calls (items_left notes)
+
+-- the name and the descriptor of a note that a call stores lie in the file, and the next offset is past the header of
+-- this note
+abbrev pub NotesLieInFile : Type 0
+NotesLieInFile =
+    (bytes : List ℕ) (h : GoblinHeader) (range : GoblinRange) (alignment offset : ℕ) (found : GoblinNote)
+    → note_expected bytes h range alignment offset ≡ Ok (Some found)
+    → LiesIn bytes found.name × LiesIn bytes found.desc × (offset + nhdr32_size ≤ found.next)
+
+-- a note that a call stores, and whose descriptor lies in the range, is the one that is stored as a whole note
+abbrev pub WholeNotesAreNotes : Type 0
+WholeNotesAreNotes =
+    (bytes : List ℕ) (h : GoblinHeader) (range : GoblinRange) (alignment offset : ℕ) (note : GoblinNote)
+    → note_utf8_expected bytes h range alignment offset ≡ Ok (Some note)
+    → note.desc.offset + note.desc.size ≤ range.offset + range.size
+    → note_whole_expected bytes h range alignment offset ≡ Ok (Some note)
+
+-- a note whose name is text is stored by either call, and the same
+pub record NotesAreText : Type 0 where
+  pub bytes :
+      (bytes : List ℕ) (h : GoblinHeader) (range : GoblinRange) (alignment offset : ℕ) (note : GoblinNote)
+      → note_utf8_expected bytes h range alignment offset ≡ Ok (Some note)
+      → note_expected bytes h range alignment offset ≡ Ok (Some note)
+  pub text :
+      (bytes : List ℕ) (h : GoblinHeader) (range : GoblinRange) (alignment offset : ℕ) (note : GoblinNote)
+      → note_expected bytes h range alignment offset ≡ Ok (Some note) → is_utf8 (bytes_in bytes note.name) ≡ true
+      → note_utf8_expected bytes h range alignment offset ≡ Ok (Some note)
+
+-- the numbers of no part of a note, the header, the name and the descriptor
+abbrev pub PartsAreNumbered : Type 0
+PartsAreNumbered =
+    part_number None ∷ part_number (Some part.Header) ∷ part_number (Some part.Name) ∷ part_number (Some part.Desc) ∷ []
+    ≡ 0 ∷ 4 ∷ 5 ∷ 6 ∷ []
+
+-- a refusal of a whole note has the note's offset
+abbrev pub NotesRefuseThere : Type 0
+NotesRefuseThere = (offset : ℕ) (e : PartRefusal) → (part_converted offset e).offset ≡ offset

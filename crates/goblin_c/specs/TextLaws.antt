@@ -1,38 +1,33 @@
 -- Each refusal of each call has the library's text when it is converted for C.
-use Rattle.std.proofs.Common.{◌≡◌, ◌⊎◌, ◌+◌, ℕ, zero, suc, Bool, List, codes, Option, Some, None, Result, Ok, Err, inl}
-use Rattle.std.proofs.Common.{inr, refl, arith}
+use Rattle.goblin_base.specs.{Eager.records_from, Eager.records_in, Eager.room_of_each, Record.read_within}
+use Rattle.goblin_base.specs.{declared.container.Endian.Endian}
+use Rattle.goblin_c.specs.Common.{Big, Ctx, DataType, GoblinDyn, GoblinHeader, GoblinRange, GoblinReloc, GoblinSection}
+use Rattle.goblin_c.specs.Common.{GoblinSegment, GoblinSymbol, IntegerFit, Layout, Little, Misfit, PartRefusal, Refusal}
+use Rattle.goblin_c.specs.Common.{buffer_too_short, header_layout, header_size, malformed, misplaced, places_at}
+use Rattle.goblin_c.specs.Common.{range_in, read_header, read_in_order, read_places, refusal_of, refusal_text}
+use Rattle.goblin_c.specs.Common.{refuse_as, room_of, section_headers_from, section_headers_from_tested, with_size}
+use Rattle.goblin_c.specs.Common.{◌>>=◌}
+use Rattle.goblin_c.specs.Dynamic.{dyn_put_expected, dynamic_count_expected, dynamic_expected, dynamic_strings_expected}
+use Rattle.goblin_c.specs.Dynamic.{dynamic_value_expected, entries_from_expected, entry_expected}
+use Rattle.goblin_c.specs.File.{ctx_of, header_expected, header_put_expected, named_ctx}
+use Rattle.goblin_c.specs.Notes.{note_expected, note_utf8_expected, note_whole_expected, part_converted, parts_at}
+use Rattle.goblin_c.specs.Numbers.{number_expected, number_in_expected, number_in_put_expected, number_put_expected}
+use Rattle.goblin_c.specs.Relocs.{reloc_count_expected, reloc_expected, reloc_put_expected, relocs_expected}
+use Rattle.goblin_c.specs.Results.{RefusalAt, refusal_converted, refused_at}
+use Rattle.goblin_c.specs.Sections.{names_section_expected, section_by_name_expected, section_by_type_expected}
+use Rattle.goblin_c.specs.Sections.{section_count_expected, section_expected, section_put_expected}
+use Rattle.goblin_c.specs.Sections.{section_range_expected, sections_expected, sections_from_expected, table_expected}
+use Rattle.goblin_c.specs.Segments.{address_to_offset_expected, segment_count_expected, segment_expected}
+use Rattle.goblin_c.specs.Segments.{segment_put_expected, segment_range_expected, segments_expected}
+use Rattle.goblin_c.specs.Strings.{closed_strings_expected, string_closed_expected, string_expected}
+use Rattle.goblin_c.specs.Symbols.{symbol_by_address_expected, symbol_by_name_expected, symbol_count_expected}
+use Rattle.goblin_c.specs.Symbols.{symbol_expected, symbol_put_expected, symbols_expected, symbols_from_expected}
+use Rattle.goblin_c.specs.Texts.{NamesKnown, TextIsSame, converted_text, with_misfit}
+use Rattle.goblin_c.specs.{Notes.read_parts, Puts.Put, Puts.put_if_there, Puts.put_unless, Relocs.relocs_from_expected}
+use Rattle.goblin_c.specs.{Segments.segments_from_expected, Strings.string_utf8_expected, Strings.strings_expected}
+use Rattle.std.proofs.Common.{Bool, Err, List, None, Ok, Option, Result, Some, arith, codes, inl, inr, refl, suc, zero}
+use Rattle.std.proofs.Common.{ℕ, ◌+◌, ◌≡◌, ◌⊎◌}
 use Rattle.std.specs.Bool.{⊤}
-use Rattle.goblin_c.specs.Common.{Ctx, DataType, IntegerFit, Layout, Refusal, buffer_too_short, malformed, misplaced}
-use Rattle.goblin_c.specs.Common.{refusal_of, room_of, ◌>>=◌, refuse_as, with_size, range_in, refusal_text}
-use Rattle.goblin_c.specs.Common.{header_layout, header_size, read_header, read_in_order, section_headers_from}
-use Rattle.goblin_c.specs.Common.{section_headers_from_tested, GoblinHeader, GoblinRange, GoblinSection, GoblinSegment}
-use Rattle.goblin_c.specs.Common.{GoblinReloc, GoblinSymbol, Little, Big, PartRefusal, places_at, read_places, Misfit}
-use Rattle.goblin_base.specs.declared.container.Endian.{Endian}
-use Rattle.goblin_base.specs.Eager.{records_from, records_in, room_of_each}
-use Rattle.goblin_base.specs.Record.{read_within}
-use Rattle.goblin_c.specs.Refused.{RefusalAt, refused_at}
-use Rattle.goblin_c.specs.Expected.{ctx_of, header_expected, reloc_count_expected, reloc_expected, relocs_from_expected}
-use Rattle.goblin_c.specs.Expected.{relocs_expected, section_by_name_expected, section_by_type_expected}
-use Rattle.goblin_c.specs.Expected.{section_count_expected, names_section_expected, section_expected}
-use Rattle.goblin_c.specs.Expected.{sections_from_expected, sections_expected, segment_count_expected, segment_expected}
-use Rattle.goblin_c.specs.Expected.{segments_from_expected, segments_expected, string_utf8_expected}
-use Rattle.goblin_c.specs.Expected.{strings_expected, symbol_by_address_expected}
-use Rattle.goblin_c.specs.Expected.{symbol_by_name_expected, symbol_count_expected, symbol_expected}
-use Rattle.goblin_c.specs.Expected.{symbols_from_expected, symbols_expected, table_expected}
-use Rattle.goblin_c.specs.Bytes.{number_expected, section_range_expected, segment_range_expected, string_expected}
-use Rattle.goblin_c.specs.Bytes.{closed_strings_expected, string_closed_expected}
-use Rattle.goblin_c.specs.Dynamic.{dynamic_expected, dynamic_strings_expected, dynamic_value_expected}
-use Rattle.goblin_c.specs.Dynamic.{dynamic_count_expected, entries_from_expected, entry_expected}
-use Rattle.goblin_c.specs.Common.{GoblinDyn}
-use Rattle.goblin_c.specs.Write.{dyn_put_expected}
-use Rattle.goblin_c.specs.Notes.{note_expected, note_whole_expected, note_utf8_expected, part_converted, parts_at}
-use Rattle.goblin_c.specs.Notes.{read_parts}
-use Rattle.goblin_c.specs.Places.{address_to_offset_expected, number_in_expected}
-use Rattle.goblin_c.specs.Types.{refusal_converted}
-use Rattle.goblin_c.specs.Write.{Put, header_put_expected, named_ctx, number_in_put_expected, number_put_expected}
-use Rattle.goblin_c.specs.Write.{put_if_there, put_unless, reloc_put_expected, section_put_expected}
-use Rattle.goblin_c.specs.Write.{segment_put_expected, symbol_put_expected}
-use Rattle.goblin_c.specs.Texts.{NamesKnown, TextIsSame, converted_text}
 
 pub text_same : TextIsSame
 text_same why known = grind arith
@@ -47,7 +42,8 @@ abbrev pub PutHasSameText : Put → Type 0
 PutHasSameText (Ok x) = ⊤
 PutHasSameText (Err why) =
     ((e : RefusalAt) × (why ≡ refusal_converted e) × (converted_text why ≡ refusal_text e.refusal))
-    ⊎ ((why.kind ≡ 24) × (converted_text why ≡ refusal_text (malformed (IntegerFit (record { 0 = tt })))))
+    ⊎ ((why.kind ≡ 24)
+    × (converted_text why ≡ with_misfit why (refusal_text (malformed (IntegerFit (record { 0 = tt }))))))
 
 -- so has the refusal of a whole note, whose item is the part
 abbrev pub PartHasSameText : {X : Type 0} → ℕ → Result X PartRefusal → Type 0

@@ -1,12 +1,12 @@
 -- The text of a refusal that C has.
-use Rattle.goblin_base.specs.declared.texts.Kind.{Kind}
 use Rattle.goblin.specs.SectionNames.{section_flag_name}
-use Rattle.std.specs.Prelude.{◌≡◌, ◌⊎◌, ⊤, ℕ, ◌==◌, ◌^◌, nat_lt, not, if◌then◌else◌, List, [], codes, Option, Some}
-use Rattle.std.specs.Prelude.{None}
-use Rattle.goblin_c.specs.Common.{Refusal, buffer_too_short, Facts, facts_text, kind_with, refusal_text, INVALID_UTF8}
-use Rattle.goblin_c.specs.Common.{SECTION_HEADERS, PROGRAM_HEADERS, GoblinRefusal, bad_input}
-use Rattle.goblin_c.specs.Refused.{RefusalAt}
-use Rattle.goblin_c.specs.Types.{refusal_converted}
+use Rattle.goblin_base.specs.declared.texts.Kind.{Kind}
+use Rattle.goblin_c.specs.Common.{Facts, GoblinRefusal, INVALID_UTF8, PROGRAM_HEADERS, Refusal, SECTION_HEADERS}
+use Rattle.goblin_c.specs.Common.{bad_input, buffer_too_short, facts_text, kind_with, refusal_text}
+use Rattle.goblin_c.specs.Results.{RefusalAt, refusal_converted}
+use Rattle.std.specs.Fmt.{decimal}
+use Rattle.std.specs.Prelude.{Bool, List, None, Option, Some, [], codes, if◌then◌else◌, nat_lt, not, ℕ, ⊤, ◌&&◌, ◌++◌}
+use Rattle.std.specs.Prelude.{◌==◌, ◌^◌, ◌≡◌, ◌⊎◌}
 
 -- the name of one flag of a section, of which one that isn't among the low 32 has none, as 0 has
 abbrev pub flag_name : ℕ → List ℕ
@@ -31,9 +31,21 @@ facts_from why kind = record {
   overflow = not (why.fourth == 0);
 }
 
+-- a refusal has a number that doesn't fit its field; the library's own refusal of this kind has none
+abbrev pub is_misfit : GoblinRefusal → Bool
+is_misfit why = why.kind == 24 && not (why.first == 0)
+
+-- this number, and the offset of the field
+abbrev pub misfit_text : GoblinRefusal → List ℕ
+misfit_text why = codes ": " ++ decimal why.first ++ codes " at offset " ++ decimal why.offset
+
+-- the library's text, followed by them
+abbrev pub with_misfit : GoblinRefusal → List ℕ → List ℕ
+with_misfit why text = if is_misfit why then text ++ misfit_text why else text
+
 -- the text of a refusal that C has: it is empty if the number is no kind's
 abbrev pub text_from : GoblinRefusal → Option Kind → List ℕ
-text_from why (Some kind) = facts_text (facts_from why kind)
+text_from why (Some kind) = with_misfit why (facts_text (facts_from why kind))
 text_from why None = []
 
 abbrev pub converted_text : GoblinRefusal → List ℕ

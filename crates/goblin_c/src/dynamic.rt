@@ -1,22 +1,50 @@
-//! The dynamic section: its range, its entries, the value of a tag, and the range of its strings.
-ghost use Rattle.std.specs.Prelude.{◌≡◌, ◌≤◌, ◌+◌, ◌<◌, ◌==◌, ◌^◌, IfSome, drop, length, min, position, slice_get};
-ghost use Rattle.goblin_c.specs.Refused.{Returns};
-ghost use Rattle.goblin_c.specs.Dynamic.{dynamic_count_expected, dynamic_expected, dynamic_strings_expected, entry_expected, dynamic_value_expected, entries_expected, entries_from, entries_from_expected, file_range_of, range_in_file};
-ghost use Rattle.goblin_c.specs.FilledBuffer.{laid};
-ghost use Rattle.goblin_c.specs.Expected.{first_item, found_item};
-ghost use Rattle.goblin_c.specs.Status.{Fills, Stores, StoresBoth};
+//! The dynamic section: its range, its entries, the value of a tag, the range of its strings, and how an entry is put.
+ghost use Rattle.goblin_c.specs.Buffers.{laid};
+ghost use Rattle.goblin_c.specs.Dynamic.{DynFits, dyn_converted, dyn_misfit, dyn_of, dyn_put_expected, dynamic_count_expected, dynamic_expected, dynamic_strings_expected, dynamic_value_expected, entries_expected, entries_from, entries_from_expected, entry_expected, file_range_of, range_in_file, whole_entries_expected};
+ghost use Rattle.goblin_c.specs.Items.{first_item, found_item};
+ghost use Rattle.goblin_c.specs.Puts.{Puts};
+ghost use Rattle.goblin_c.specs.Results.{Fills, Returns, Stores, StoresBoth};
+ghost use Rattle.goblin_dynamic.specs.Dyn.{entry_layout};
+ghost use Rattle.std.specs.Prelude.{IfSome, IsTrue, drop, length, min, position, slice_get, ◌+◌, ◌<◌, ◌==◌, ◌^◌, ◌↔◌, ◌≡◌, ◌≤◌};
 
-use crate::bytes::fits;
-use crate::headers::{ctx_of, sections_of, segments_of};
-use crate::kinds::{END, OK};
-use crate::refused::{Result, refused_at};
-use crate::status::{refuse, store, store_both};
-use crate::types::{GoblinDyn, GoblinFile, GoblinHeader, GoblinRange, GoblinRefusal, convert_dyn};
-use goblin::container::Ctx;
+use crate::file::{GoblinFile, GoblinHeader};
+use crate::misfit::{Misfit, first_misfit};
+use crate::numbers::{GoblinRange, fits};
+use crate::puts::put_found;
+use crate::results::{END, GoblinRefusal, OK, Result, refuse, refused_at, store, store_both};
+use goblin::container::{Container, Ctx};
 use goblin_base::table::Table;
 use goblin_dynamic::dynamic::{Dynamic, FileRange};
 use goblin_dynamic::entry::Dyn;
 use goblin_dynamic::tags::DT_NULL;
+
+/// An entry of the dynamic section.
+#[repr(C)]
+#[derive(Clone, Copy, Debug)]
+pub struct GoblinDyn {
+    pub d_tag: u64,
+    pub d_val: u64,
+}
+
+// Returns the entry from C.
+pub(crate) fn dyn_of(own: &GoblinDyn) -> Dyn
+    ensures { result ≡ dyn_of own.now }
+{
+    Dyn {
+        d_tag: own.d_tag,
+        d_val: own.d_val,
+    }
+}
+
+// Converts an entry for C.
+pub(crate) fn convert_dyn(d: &Dyn) -> GoblinDyn
+    ensures { result ≡ dyn_converted d.now }
+{
+    GoblinDyn {
+        d_tag: d.d_tag,
+        d_val: d.d_val,
+    }
+}
 
 // Returns a range from C.
 fn file_range_of(range: &GoblinRange) -> FileRange
@@ -36,23 +64,23 @@ fn range_in_file(bytes: &[u8], range: Option<FileRange>) -> Result<Option<Goblin
         Some(range) => {
             let (offset, size) = (range.offset as u64, range.size as u64);
             fits(bytes, offset, size)?;
-            Ok(Some(GoblinRange { offset, size }))
+            Ok(Some(GoblinRange::new(offset, size)))
         }
         None => Ok(None),
     }
 }
 
 // Returns the range of the dynamic section by the segments, or in a file without segments by the sections.
-fn range_of_dynamic(bytes: &[u8], header: &GoblinHeader) -> Result<Option<GoblinRange>>
-    ensures { Returns (λ found. found) result (dynamic_expected bytes.now header.now) }
+fn range_of_dynamic(file: &GoblinFile<'_>) -> Result<Option<GoblinRange>>
+    ensures { Returns (λ found. found) result (dynamic_expected file.now.bytes.now file.now.header) }
 {
-    let segments = segments_of(bytes, header)?;
+    let segments = file.segments()?;
     let range = if segments.is_empty() {
-        Dynamic::range_by_sections(&sections_of(bytes, header)?)
+        Dynamic::range_by_sections(&file.sections()?)
     } else {
         Dynamic::range_by_segments(&segments)
     };
-    range_in_file(bytes, range)
+    range_in_file(file.bytes, range)
 }
 
 /// Stores the range of the dynamic section.
@@ -65,7 +93,7 @@ pub extern "C" fn goblin_dynamic(
     ensures { Stores (dynamic_expected file.now.bytes.now file.now.header)
         dynamic.old why.old result dynamic.new why.new }
 {
-    store(range_of_dynamic(file.bytes, &file.header), dynamic, why)
+    store(range_of_dynamic(file), dynamic, why)
 }
 
 // Returns the entry at an index for C, or `None` if there is none or it ends the entries.
@@ -81,7 +109,7 @@ fn entry_at(all: &Table<'_, Dyn, Ctx>, index: usize) -> Option<GoblinDyn>
 }
 
 // Fills a buffer with the entries from an index on. Returns how many it holds.
-#[tactic(auto, using(crate::proofs::DynamicLemmas::few_entries, crate::proofs::FilledBufferLemmas::laid_steps))]
+#[tactic(auto, using(crate::proofs::DynamicLemmas::few_entries, crate::proofs::BufferLemmas::laid_steps))]
 fn fill(all: &Table<'_, Dyn, Ctx>, first: usize, buffer: &mut [GoblinDyn]) -> usize
     requires { first ≤ length all.now }
     ensures written { buffer.new ≡ laid (entries_from all.now first) buffer.old }
@@ -100,6 +128,14 @@ fn fill(all: &Table<'_, Dyn, Ctx>, first: usize, buffer: &mut [GoblinDyn]) -> us
     count
 }
 
+// Returns all entries that lie in a range whole.
+fn whole_entries_of<'a>(file: &GoblinFile<'a>, range: &GoblinRange) -> Result<Table<'a, Dyn, Ctx>>
+    ensures { Returns (λ all. all) result (whole_entries_expected file.now.bytes.now file.now.header range.now) }
+{
+    let all = Dynamic::whole_in_range(file.bytes, file_range_of(range), file.header.ctx());
+    refused_at(range.offset, all)
+}
+
 /// Stores the entries from an index on, before the one that ends them, as many as the buffer holds.
 #[unsafe(no_mangle)]
 pub extern "C" fn goblin_dynamic_entries(
@@ -113,8 +149,7 @@ pub extern "C" fn goblin_dynamic_entries(
     ensures { Fills (entries_from_expected file.now.bytes.now file.now.header dynamic.now first)
         entries.old filled.old why.old result entries.new filled.new why.new }
 {
-    let all = Dynamic::whole_in_range(file.bytes, file_range_of(dynamic), ctx_of(&file.header));
-    match refused_at(dynamic.offset, all) {
+    match whole_entries_of(file, dynamic) {
         Ok(all) => {
             let first = first as usize;
             if entry_at(&all, first).is_none() {
@@ -128,14 +163,10 @@ pub extern "C" fn goblin_dynamic_entries(
 }
 
 // Returns the entries of a range, before the one that ends them.
-fn entries_of<'a>(
-    bytes: &'a [u8],
-    header: &GoblinHeader,
-    range: &GoblinRange,
-) -> Result<Dynamic<'a>>
-    ensures { Returns (λ entries. entries) result (entries_expected bytes.now header.now range.now) }
+fn entries_of<'a>(file: &GoblinFile<'a>, range: &GoblinRange) -> Result<Dynamic<'a>>
+    ensures { Returns (λ entries. entries) result (entries_expected file.now.bytes.now file.now.header range.now) }
 {
-    let entries = Dynamic::in_range(bytes, file_range_of(range), ctx_of(header));
+    let entries = Dynamic::in_range(file.bytes, file_range_of(range), file.header.ctx());
     refused_at(range.offset, entries)
 }
 
@@ -150,7 +181,7 @@ pub extern "C" fn goblin_dynamic_count(
     ensures { Stores (dynamic_count_expected file.now.bytes.now file.now.header dynamic.now)
         count.old why.old result count.new why.new }
 {
-    let entries = entries_of(file.bytes, &file.header, dynamic);
+    let entries = entries_of(file, dynamic);
     let found = entries.map(|entries| Some(entries.entries.len() as u64));
     store(found, count, why)
 }
@@ -185,15 +216,15 @@ fn value_in(entries: &Table<'_, Dyn, Ctx>, tag: u64, first: usize) -> Option<(u6
 
 // Returns the index and the value of the first entry with a tag, among those of a range from an index on.
 fn value_of(
-    bytes: &[u8],
-    header: &GoblinHeader,
+    file: &GoblinFile<'_>,
     range: &GoblinRange,
     tag: u64,
     first: u64,
 ) -> Result<Option<(u64, u64)>>
-    ensures { Returns (λ found. found) result (dynamic_value_expected bytes.now header.now range.now tag first) }
+    ensures { Returns (λ found. found) result
+        (dynamic_value_expected file.now.bytes.now file.now.header range.now tag first) }
 {
-    let all = entries_of(bytes, header, range)?;
+    let all = entries_of(file, range)?;
     Ok(value_in(&all.entries, tag, first as usize))
 }
 
@@ -211,26 +242,23 @@ pub extern "C" fn goblin_dynamic_value(
     ensures { StoresBoth (dynamic_value_expected file.now.bytes.now file.now.header dynamic.now tag first)
         index.old value.old why.old result index.new value.new why.new }
 {
-    let found = value_of(file.bytes, &file.header, dynamic, tag, first);
+    let found = value_of(file, dynamic, tag, first);
     store_both(found, index, value, why)
 }
 
 // Returns the range of the strings.
-fn strings_of(
-    bytes: &[u8],
-    header: &GoblinHeader,
-    range: &GoblinRange,
-) -> Result<Option<GoblinRange>>
-    ensures { Returns (λ found. found) result (dynamic_strings_expected bytes.now header.now range.now) }
+fn strings_of(file: &GoblinFile<'_>, range: &GoblinRange) -> Result<Option<GoblinRange>>
+    ensures { Returns (λ found. found) result
+        (dynamic_strings_expected file.now.bytes.now file.now.header range.now) }
 {
-    let entries = entries_of(bytes, header, range)?;
-    let segments = segments_of(bytes, header)?;
+    let entries = entries_of(file, range)?;
+    let segments = file.segments()?;
     let found = if segments.is_empty() {
-        Dynamic::strings_range_by_sections(&sections_of(bytes, header)?)
+        Dynamic::strings_range_by_sections(&file.sections()?)
     } else {
         entries.strings_range(&segments)
     };
-    range_in_file(bytes, found)
+    range_in_file(file.bytes, found)
 }
 
 /// Stores the range of the strings.
@@ -244,18 +272,50 @@ pub extern "C" fn goblin_dynamic_strings(
     ensures { Stores (dynamic_strings_expected file.now.bytes.now file.now.header dynamic.now)
         strings.old why.old result strings.new why.new }
 {
-    store(strings_of(file.bytes, &file.header, dynamic), strings, why)
+    store(strings_of(file, dynamic), strings, why)
 }
 
-/// Returns the entry at an index of those that lie in a range whole.
-pub fn entry_of(
-    bytes: &[u8],
-    header: &GoblinHeader,
-    range: &GoblinRange,
-    index: u64,
-) -> Result<Option<Dyn>>
-    ensures { Returns (λ found. found) result (entry_expected bytes.now header.now range.now index) }
+// Returns the entry at an index of those that lie in a range whole.
+fn entry_of(file: &GoblinFile<'_>, range: &GoblinRange, index: u64) -> Result<Option<Dyn>>
+    ensures { Returns (λ found. found) result (entry_expected file.now.bytes.now file.now.header range.now index) }
 {
-    let all = Dynamic::whole_in_range(bytes, file_range_of(range), ctx_of(header));
-    Ok(refused_at(range.offset, all)?.get(index as usize))
+    Ok(whole_entries_of(file, range)?.get(index as usize))
+}
+
+/// Returns the first value of an entry of the dynamic section that doesn't fit its field in the 32-bit class.
+pub fn dyn_misfit(d: &Dyn) -> Misfit
+    ensures { result ≡ dyn_misfit d.now }
+{
+    first_misfit(0, &[(4, d.d_tag), (4, d.d_val)])
+}
+
+// Reports whether an entry fits the fields of a class.
+fn entry_fits(d: &Dyn, ctx: Ctx) -> bool
+    ensures { IsTrue result ↔ (entry_layout ctx.container ctx.le).Fits d.now }
+{
+    let (tag, val) = (d.d_tag, d.d_val);
+    match ctx.container {
+        Container::Little => tag < 1 << 32 && val < 1 << 32,
+        Container::Big => true,
+    }
+}
+
+/// Puts the entry at an index of those that lie in a range of the dynamic section whole.
+#[unsafe(no_mangle)]
+pub extern "C" fn goblin_put_dynamic_entry(
+    bytes: &mut [u8],
+    header: &GoblinHeader,
+    dynamic: &GoblinRange,
+    index: u64,
+    entry: &GoblinDyn,
+    why: &mut GoblinRefusal,
+) -> u32
+    ensures { Puts (DynFits header.now entry.now) (dyn_misfit (dyn_of entry.now))
+        (dyn_put_expected bytes.old header.now dynamic.now index entry.now)
+        bytes.old why.old result bytes.new why.new }
+{
+    let found = entry_of(&GoblinFile::of(bytes, header), dynamic, index);
+    let (ctx, record) = (header.ctx(), dyn_of(entry));
+    let unfit = (!entry_fits(&record, ctx)).then(|| dyn_misfit(&record));
+    put_found(bytes, found, dynamic.offset, index, record, ctx, unfit, why)
 }

@@ -1,11 +1,16 @@
 //! One of each struct that calls share with C, with numbers by which C can check the place of each field.
-ghost use Rattle.std.specs.Prelude.{◌≡◌, ◌<◌, ◌==◌, ◌^◌, if◌then◌else◌, nat_lt};
 ghost use Rattle.goblin_c.specs.Layout.{each_byte, marked, range_marked};
+ghost use Rattle.std.specs.Prelude.{if◌then◌else◌, nat_lt, ◌<◌, ◌==◌, ◌^◌, ◌≡◌};
 
-use crate::types::{
-    GoblinDyn, GoblinFile, GoblinHeader, GoblinNote, GoblinRange, GoblinRefusal, GoblinReloc,
-    GoblinSection, GoblinSegment, GoblinSymbol,
-};
+use crate::dynamic::GoblinDyn;
+use crate::file::{GoblinFile, GoblinHeader};
+use crate::notes::GoblinNote;
+use crate::numbers::GoblinRange;
+use crate::relocs::GoblinReloc;
+use crate::results::GoblinRefusal;
+use crate::sections::GoblinSection;
+use crate::segments::GoblinSegment;
+use crate::symbols::GoblinSymbol;
 
 /// The sizes of the structs in bytes, and one of each, in which each byte of the first field is 1, of
 /// the second 2, and so on.
@@ -145,10 +150,7 @@ fn marked_range(mark: u8) -> GoblinRange
     requires { mark < 2 ^ 7 }
     ensures { result ≡ range_marked mark }
 {
-    GoblinRange {
-        offset: wide(mark),
-        size: wide(mark + 1),
-    }
+    GoblinRange::new(wide(mark), wide(mark + 1))
 }
 
 // Returns the number of eight bytes, each of which is a mark.

@@ -1,19 +1,31 @@
-//! Which value of a record doesn't fit its field, and where the field lies.
-ghost use Rattle.std.specs.Prelude.{◌≡◌, ◌≤◌, ◌<◌, ◌+◌, ◌*◌, ◌^◌, All, IsTrue, length, map};
+//! The widths of numbers, and which value of a record doesn't fit its field.
 ghost use Rattle.goblin_base.specs.Fields.{field};
-ghost use Rattle.goblin_c.specs.Bytes.{is_width};
-ghost use Rattle.goblin_c.specs.Write.{dyn_misfit, header_misfit, misfit_from, reloc_misfit, section_misfit, segment_misfit, symbol_misfit, unfit};
+ghost use Rattle.goblin_c.specs.Numbers.{NumberFits, is_width};
+ghost use Rattle.goblin_c.specs.Puts.{misfit_from, unfit};
+ghost use Rattle.std.specs.Prelude.{All, IsTrue, length, map, ◌*◌, ◌+◌, ◌<◌, ◌^◌, ◌↔◌, ◌≡◌, ◌≤◌};
 
-use crate::kinds::ADDEND;
-use crate::types::{GoblinRefusal, GoblinReloc};
-use crate::write::number_fits;
-use goblin::container::Container;
-use goblin::elf::header::Header;
-use goblin::elf::program_header::ProgramHeader;
-use goblin::elf::section_header::SectionHeader;
-use goblin::elf::sym::Sym;
+use crate::results::GoblinRefusal;
 use goblin_base::texts::Kind;
-use goblin_dynamic::entry::Dyn;
+
+/// Reports whether numbers of the format have this width in bytes.
+pub fn is_width(width: u64) -> bool
+    ensures { result ≡ is_width width }
+{
+    width == 1 || width == 2 || width == 4 || width == 8
+}
+
+/// Reports whether a number fits into so many bytes.
+pub fn number_fits(width: u64, value: u64) -> bool
+    requires { IsTrue (is_width width) }
+    ensures { IsTrue result ↔ NumberFits width value }
+{
+    match width {
+        1 => value < 1 << 8,
+        2 => value < 1 << 16,
+        4 => value < 1 << 32,
+        _ => true,
+    }
+}
 
 /// A value that doesn't fit its field.
 #[derive(Clone, Copy, Debug)]
@@ -48,7 +60,7 @@ impl Misfit {
 
 // Returns the first of some fields whose value doesn't fit its width. They are widths in bytes and values, and lie one
 // after another from an offset in their record on.
-fn first_misfit(start: u8, fields: &[(u8, u64)]) -> Misfit
+pub fn first_misfit(start: u8, fields: &[(u8, u64)]) -> Misfit
     requires widths { All (λ f. IsTrue (is_width f.0)) fields.now }
     requires bound { start + 8 * length fields.now ≤ 255 }
     ensures { result ≡ misfit_from start (map (λ f. field f.0 f.1) fields.now) }
@@ -68,120 +80,5 @@ fn first_misfit(start: u8, fields: &[(u8, u64)]) -> Misfit
         value: 0,
         offset,
         item: 0,
-    }
-}
-
-/// Returns the first value of a section header that doesn't fit its field in the 32-bit class.
-pub fn section_misfit(s: &SectionHeader) -> Misfit
-    ensures { result ≡ section_misfit s.now }
-{
-    first_misfit(
-        0,
-        &[
-            (4, s.sh_name as u64),
-            (4, u64::from(s.sh_type)),
-            (4, s.sh_flags),
-            (4, s.sh_addr),
-            (4, s.sh_offset),
-            (4, s.sh_size),
-            (4, u64::from(s.sh_link)),
-            (4, u64::from(s.sh_info)),
-            (4, s.sh_addralign),
-            (4, s.sh_entsize),
-        ],
-    )
-}
-
-/// Returns the first value of a program header that doesn't fit its field in the 32-bit class.
-pub fn segment_misfit(s: &ProgramHeader) -> Misfit
-    ensures { result ≡ segment_misfit s.now }
-{
-    first_misfit(
-        0,
-        &[
-            (4, u64::from(s.p_type)),
-            (4, s.p_offset),
-            (4, s.p_vaddr),
-            (4, s.p_paddr),
-            (4, s.p_filesz),
-            (4, s.p_memsz),
-            (4, u64::from(s.p_flags)),
-            (4, s.p_align),
-        ],
-    )
-}
-
-/// Returns the first value of a symbol that doesn't fit its field in the 32-bit class.
-pub fn symbol_misfit(s: &Sym) -> Misfit
-    ensures { result ≡ symbol_misfit s.now }
-{
-    first_misfit(
-        0,
-        &[
-            (4, s.st_name as u64),
-            (4, s.st_value),
-            (4, s.st_size),
-            (1, u64::from(s.st_info)),
-            (1, u64::from(s.st_other)),
-            (2, s.st_shndx as u64),
-        ],
-    )
-}
-
-/// Returns the first value of an entry of the dynamic section that doesn't fit its field in the 32-bit class.
-pub fn dyn_misfit(d: &Dyn) -> Misfit
-    ensures { result ≡ dyn_misfit d.now }
-{
-    first_misfit(0, &[(4, d.d_tag), (4, d.d_val)])
-}
-
-/// Returns the first value of a header that doesn't fit its field in the 32-bit class.
-pub fn header_misfit(h: &Header) -> Misfit
-    ensures { result ≡ header_misfit h.now }
-{
-    first_misfit(
-        16,
-        &[
-            (2, u64::from(h.e_type)),
-            (2, u64::from(h.e_machine)),
-            (4, u64::from(h.e_version)),
-            (4, h.e_entry),
-            (4, h.e_phoff),
-            (4, h.e_shoff),
-            (4, u64::from(h.e_flags)),
-            (2, u64::from(h.e_ehsize)),
-            (2, u64::from(h.e_phentsize)),
-            (2, u64::from(h.e_phnum)),
-            (2, u64::from(h.e_shentsize)),
-            (2, u64::from(h.e_shnum)),
-            (2, u64::from(h.e_shstrndx)),
-        ],
-    )
-}
-
-/// Returns the first value of a relocation that doesn't fit its field in a class. If all others do, that is the addend,
-/// which is marked if the table has none.
-pub fn reloc_misfit(r: &GoblinReloc, is_rela: bool, class: Container) -> Misfit
-    ensures { result ≡ reloc_misfit class is_rela r.now }
-{
-    let (word, most, symbols, types) = match class {
-        Container::Little => (4, u64::from(u32::MAX), 1 << 24, 1 << 8),
-        Container::Big => (8, u64::MAX, 1 << 32, 1 << 32),
-    };
-    let (sym, typ) = (u64::from(r.r_sym), u64::from(r.r_type));
-    let (value, offset, item) = if r.r_offset > most {
-        (r.r_offset, 0, 0)
-    } else if sym >= symbols {
-        (sym, word, 0)
-    } else if typ >= types {
-        (typ, word, 0)
-    } else {
-        let item = if is_rela { 0 } else { ADDEND };
-        (r.r_addend.cast_unsigned(), 2 * word, item)
-    };
-    Misfit {
-        value,
-        offset,
-        item,
     }
 }

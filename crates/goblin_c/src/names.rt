@@ -1,16 +1,16 @@
 //! The names of numbers, written for C.
-ghost use Rattle.std.specs.Prelude.{◌≡◌};
 ghost use Rattle.goblin.specs.HeaderNames.{class_name, file_type_name};
 ghost use Rattle.goblin.specs.Machines.{machine_name};
 ghost use Rattle.goblin.specs.NoteType.{note_type_name};
 ghost use Rattle.goblin.specs.SectionNames.{section_name};
 ghost use Rattle.goblin.specs.SegmentNames.{segment_name};
 ghost use Rattle.goblin.specs.SymParts.{bind_name, type_name, visibility_name};
-ghost use Rattle.goblin_c.specs.FilledBuffer.{WritesText};
+ghost use Rattle.goblin_c.specs.Buffers.{WritesText};
 ghost use Rattle.goblin_c.specs.Texts.{flag_name};
+ghost use Rattle.std.specs.Prelude.{◌≡◌};
 
 use crate::notes::note_type;
-use crate::writer::write_text;
+use crate::texts::write_text;
 use goblin::elf::header::{class_to_str, et_to_str, machine_to_str};
 use goblin::elf::program_header::pt_to_str;
 use goblin::elf::section_header::{shf_to_str, sht_to_str};

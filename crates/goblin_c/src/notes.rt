@@ -1,24 +1,57 @@
-//! Notes, as the library reads them, and the names of their types.
-ghost use Rattle.std.specs.Prelude.{◌≡◌, ◌+◌, ◌-◌, ◌≤◌, IfOk, length, take};
+//! Notes: by their offsets, with names that are bytes or UTF-8, or whole; and the names of their types.
+ghost use Rattle.goblin.specs.NoteType.{note_type_name};
 ghost use Rattle.goblin.specs.Notes.{LieWithin};
 ghost use Rattle.goblin.specs.Refusal.{refusal_of};
 ghost use Rattle.goblin_base.specs.Common.{Returns as Gives};
-ghost use Rattle.goblin.specs.NoteType.{note_type_name};
-ghost use Rattle.goblin_c.specs.Notes.{StoresNote, bytes_from, note_expected, note_whole_expected, note_utf8_expected, part_converted, part_number, parts_at, without_last};
-ghost use Rattle.goblin_c.specs.Status.{Stores};
+ghost use Rattle.goblin_c.specs.Notes.{bytes_from, note_converted, note_expected, note_utf8_expected, note_whole_expected, part_converted, part_number, parts_at, read_parts, whole_note, without_last};
+ghost use Rattle.goblin_c.specs.Results.{Stored, Stores};
+ghost use Rattle.std.specs.Prelude.{IfOk, IfSome, IsAscii, IsTrue, Ok, Some, length, take, ◌+◌, ◌-◌, ◌<◌, ◌^◌, ◌≡◌, ◌≤◌, ◌⊎◌};
+ghost use Rattle.std.specs.Str.{IsAscii};
+ghost use Rattle.goblin_base.specs.declared.container.Endian.TheVariants as endian;
 
-use crate::headers::ctx_of;
-use crate::kinds::{END, NOTE_DESC, NOTE_HEADER, NOTE_NAME, OK};
-use crate::refused::{Refused, refused_at};
-use crate::status::{refuse, store};
-use crate::types::{GoblinFile, GoblinNote, GoblinRange, GoblinRefusal, convert_note};
-use crate::usual_note::{usual_note, usual_text_note};
-use goblin::container::Ctx;
+use crate::file::{GoblinFile, GoblinHeader};
+use crate::numbers::{GoblinRange, fits};
+use crate::results::{
+    END, GoblinRefusal, NOTE_DESC, NOTE_HEADER, NOTE_NAME, OK, Refused, Result, convert_refusal,
+    refuse, refused_at, store, store_converted,
+};
+use goblin::container::{Ctx, Endian};
+use goblin::elf::header::{ELFDATA2MSB, Header};
 use goblin::elf::note::{Nhdr32, Note, NotePart, NotePlaces, NoteRefusal};
+use goblin::elf::sym::type_to_str;
 use goblin::error::{Error, Fault};
 use goblin::scroll;
 use goblin::scroll::TryFromCtx;
 use goblin_base::room::room;
+use std::result;
+
+/// A note.
+#[repr(C)]
+#[derive(Clone, Copy, Debug)]
+pub struct GoblinNote {
+    /// Its name, without its last byte, zero in most files.
+    pub name: GoblinRange,
+    /// Its descriptor.
+    pub desc: GoblinRange,
+    /// The offset of the next note.
+    pub next: u64,
+    pub n_type: u32,
+}
+
+// Converts the note at an offset, whose parts are at these places.
+pub(crate) fn convert_note(offset: u64, places: &NotePlaces) -> GoblinNote
+    requires name { offset + places.now.name < 2 ^ 64 }
+    requires desc { offset + places.now.desc < 2 ^ 64 }
+    requires next { offset + places.now.next < 2 ^ 64 }
+    ensures { result ≡ note_converted offset places.now }
+{
+    GoblinNote {
+        name: GoblinRange::new(offset + places.name as u64, places.name_size as u64),
+        desc: GoblinRange::new(offset + places.desc as u64, places.desc_size as u64),
+        next: offset + places.next as u64,
+        n_type: places.n_type,
+    }
+}
 
 // Finds the parts of the note at an offset of the file, whose name need not be UTF-8.
 #[tactic(auto, unfolding(crate::specs::Notes::parts_at, crate::specs::Notes::read_parts))]
@@ -80,10 +113,10 @@ fn store_any_note(
     ensures { Stores (note_expected file.now.bytes.now file.now.header range.now alignment offset)
         note.old why.old result note.new why.new }
 {
-    if offset >= range.offset && offset - range.offset >= range.size {
+    if range.ends_before(offset) {
         return END;
     }
-    let ctx = ctx_of(&file.header);
+    let ctx = file.header.ctx();
     let found = parts_at(file.bytes, offset as usize, alignment as usize, ctx);
     let found = refused_at(offset, found).map(|places| Some(convert_note(offset, &places)));
     store(found, note, why)
@@ -122,10 +155,10 @@ fn store_any_text_note(
     ensures { Stores (note_utf8_expected file.now.bytes.now file.now.header range.now alignment offset)
         note.old why.old result note.new why.new }
 {
-    if offset >= range.offset && offset - range.offset >= range.size {
+    if range.ends_before(offset) {
         return END;
     }
-    let ctx = (alignment as usize, ctx_of(&file.header));
+    let ctx = (alignment as usize, file.header.ctx());
     let found = refused_at(offset, Note::at(file.bytes, offset as usize, ctx));
     let found = found.map(|(_, places)| Some(convert_note(offset, &places)));
     store(found, note, why)
@@ -167,21 +200,16 @@ fn part_number(part: &Option<NotePart>) -> u32
     }
 }
 
-// Stores the refusal of the note at an offset. Returns the number of its kind.
-fn refuse_note(e: NoteRefusal, offset: u64, why: &mut GoblinRefusal) -> u32
-    ensures written { why.new ≡ part_converted offset (record { part = e.part; refusal = refusal_of e.error }) }
-    ensures value { result ≡ (part_converted offset (record { part = e.part; refusal = refusal_of e.error })).kind }
+// Returns the refusal of the note at an offset, for C.
+fn refused_note(e: NoteRefusal, offset: u64) -> GoblinRefusal
+    ensures { result ≡ part_converted offset (record { part = e.part; refusal = refusal_of e.error }) }
 {
     let item = part_number(&e.part);
-    let kind = refuse(
-        &Refused {
-            error: e.error,
-            offset,
-        },
-        why,
-    );
-    why.item = item;
-    kind
+    let error = e.error;
+    GoblinRefusal {
+        item,
+        ..convert_refusal(&Refused { error, offset })
+    }
 }
 
 // Returns the places of a note, without the last byte of its name.
@@ -194,7 +222,26 @@ fn without_last(places: &NotePlaces) -> NotePlaces
     }
 }
 
-/// Stores the note at an offset of the file as `goblin_note` does, if the note lies in the range whole.
+/// Returns the note at an offset of the file as `goblin_note` stores it, if the note lies in the range whole.
+pub fn whole_note(
+    file: &GoblinFile<'_>,
+    range: &GoblinRange,
+    alignment: u64,
+    offset: u64,
+) -> result::Result<Option<GoblinNote>, GoblinRefusal>
+    ensures { result ≡ whole_note file.now.bytes.now file.now.header range.now alignment offset }
+{
+    if range.ends_before(offset) {
+        return Ok(None);
+    }
+    let part = bytes_from(file.bytes, range, offset);
+    match NotePlaces::whole(part, (alignment as usize, file.header.ctx())) {
+        Ok(places) => Ok(Some(convert_note(offset, &without_last(&places)))),
+        Err(e) => Err(refused_note(e, offset)),
+    }
+}
+
+/// Stores this note.
 #[unsafe(no_mangle)]
 pub extern "C" fn goblin_note_whole(
     file: &GoblinFile<'_>,
@@ -204,20 +251,10 @@ pub extern "C" fn goblin_note_whole(
     note: &mut GoblinNote,
     why: &mut GoblinRefusal,
 ) -> u32
-    ensures { StoresNote offset (note_whole_expected file.now.bytes.now file.now.header range.now alignment offset)
+    ensures { Stored (whole_note file.now.bytes.now file.now.header range.now alignment offset)
         note.old why.old result note.new why.new }
 {
-    if offset >= range.offset && offset - range.offset >= range.size {
-        return END;
-    }
-    let part = bytes_from(file.bytes, range, offset);
-    match NotePlaces::whole(part, (alignment as usize, ctx_of(&file.header))) {
-        Ok(places) => {
-            *note = convert_note(offset, &without_last(&places));
-            OK
-        }
-        Err(e) => refuse_note(e, offset, why),
-    }
+    store_converted(whole_note(file, range, alignment, offset), note, why)
 }
 
 // Returns the name of the type of a note, whose own name is UTF-8.
@@ -237,4 +274,88 @@ pub fn note_type(name: &[u8], n_type: u32) -> &'static str
         return type_of("CORE", n_type);
     }
     type_of("", n_type)
+}
+
+// The most bytes of a name that is short.
+const SHORT: usize = 16;
+
+// Reports whether a name is short and ASCII.
+#[inline(always)]
+fn is_short_ascii(name: &[u8]) -> bool
+    ensures { IsTrue result → IsAscii name.now }
+{
+    // (most names are `GNU`)
+    match name {
+        [a, b, c] => *a < 0x80 && *b < 0x80 && *c < 0x80,
+        _ => name.len() <= SHORT && name.iter().all(|byte| *byte < 0x80),
+    }
+}
+
+// Returns the places of the parts of the note at the start of some bytes, if they hold it.
+#[inline(always)]
+#[tactic(auto, unfolding(crate::specs::Notes::read_parts))]
+fn usual_places(bytes: &[u8], alignment: usize) -> Option<NotePlaces>
+    requires known { (alignment ≡ 4) ⊎ (alignment ≡ 8) }
+    ensures value { IfSome result (λ places. read_parts alignment endian.Little bytes.now ≡ Ok places) }
+    ensures within { IfSome result (LieWithin (length bytes.now) 0) }
+{
+    let Ok((header, _)) = Nhdr32::try_from_ctx(bytes, Endian::Little) else {
+        return None;
+    };
+    let places = NotePlaces::of(&header, alignment);
+    if room(bytes.len(), places.name, places.name_size).is_err() {
+        return None;
+    }
+    if room(bytes.len(), places.desc, places.desc_size).is_err() {
+        return None;
+    }
+    Some(places)
+}
+
+/// Returns the note at an offset, among those of a range, if it is a usual one.
+#[inline(always)]
+pub fn usual_note(
+    bytes: &[u8],
+    header: &GoblinHeader,
+    range: &GoblinRange,
+    alignment: u64,
+    offset: u64,
+) -> Option<GoblinNote>
+    ensures value { IfSome result
+        (λ note. note_expected bytes.now header.now range.now alignment offset ≡ Ok (Some note)) }
+    ensures name { IfSome result (λ note. note.name.offset + note.name.size ≤ length bytes.now) }
+{
+    if header.ei_data == ELFDATA2MSB || offset >= bytes.len() as u64 {
+        return None;
+    }
+    if range.ends_before(offset) {
+        return None;
+    }
+    let part = &bytes[offset as usize..];
+    let places = match alignment {
+        4 => usual_places(part, 4)?,
+        8 => usual_places(part, 8)?,
+        _ => return None,
+    };
+    Some(convert_note(offset, &places))
+}
+
+/// Returns the same note if its name is short and ASCII, as most are.
+#[inline(always)]
+pub fn usual_text_note(
+    bytes: &[u8],
+    header: &GoblinHeader,
+    range: &GoblinRange,
+    alignment: u64,
+    offset: u64,
+) -> Option<GoblinNote>
+    ensures { IfSome result
+        (λ note. note_utf8_expected bytes.now header.now range.now alignment offset ≡ Ok (Some note)) }
+{
+    let note = usual_note(bytes, header, range, alignment, offset)?;
+    let start = note.name.offset as usize;
+    if !is_short_ascii(&bytes[start..start + note.name.size as usize]) {
+        return None;
+    }
+    Some(note)
 }

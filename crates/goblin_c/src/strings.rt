@@ -1,46 +1,63 @@
 //! Strings: where they lie in the file, and what they are.
-ghost use Rattle.std.specs.Prelude.{◌≡◌, ◌+◌, ◌≤◌, if◌then◌else◌, Ok, IfOk, IfSome, IsErr, IsErrAnd, MatchOption, drop, length, map, take};
 ghost use Rattle.goblin_c.specs.Common.{is_piece, starts_piece};
-ghost use Rattle.goblin_c.specs.Bytes.{IsCString, closed_len, closed_strings_expected, string_expected, string_closed_expected};
-ghost use Rattle.goblin_c.specs.Refused.{Returns};
-ghost use Rattle.goblin_c.specs.Expected.{string_utf8_expected, string_is_expected, string_starts_expected, strings_expected};
-ghost use Rattle.goblin_c.specs.Status.{FillsEach, Stores};
+ghost use Rattle.goblin_c.specs.Results.{FillsEach, Returns, Stores};
+ghost use Rattle.goblin_c.specs.Strings.{IsCString, closed_len, closed_strings_expected, string_closed_expected, string_expected, string_is_expected, string_starts_expected, string_utf8_expected, strings_expected};
+ghost use Rattle.std.specs.Prelude.{IfOk, IfSome, IsErr, MatchOption, Ok, drop, length, map, take, ◌+◌, ◌≡◌, ◌≤◌};
 
-use crate::kinds::{END, OK};
-use crate::refused::{Result, refused_at};
-use crate::status::{refuse, store};
-use crate::types::{GoblinFile, GoblinRange, GoblinRefusal};
+use crate::file::GoblinFile;
+use crate::numbers::GoblinRange;
+use crate::results::{END, GoblinRefusal, OK, Result, refuse, refused_at, store};
 use goblin::options::ParseMode;
 use goblin::strtab;
 use goblin::strtab::{bytes_in_range, is_piece, piece_len, short_piece_len, starts_piece};
 
-/// Returns the bytes of a string table.
-#[tactic(auto, unfolding(goblin_base::specs::Strtab::range_in))]
-pub fn string_table_bytes<'a>(bytes: &'a [u8], range: &GoblinRange) -> Result<&'a [u8]>
-    ensures given { Returns (λ strings. strings.now) result (strings_expected bytes.now range.now) }
-    ensures fits { IfOk result (λ strings. range.now.offset + length strings.now ≤ length bytes.now) }
-{
-    let strings = bytes_in_range(
-        bytes,
-        range.offset as usize,
-        range.size as usize,
-        ParseMode::Strict,
-    );
-    refused_at(range.offset, strings)
+impl<'a> GoblinFile<'a> {
+    /// Returns the bytes of a string table.
+    #[tactic(auto, unfolding(goblin_base::specs::Strtab::range_in))]
+    pub fn strings(&self, range: &GoblinRange) -> Result<&'a [u8]>
+        ensures given { Returns (λ strings. strings.now) result (strings_expected self.now.bytes.now range.now) }
+        ensures fits { IfOk result (λ strings. range.now.offset + length strings.now ≤ length self.now.bytes.now) }
+    {
+        let (offset, size) = (range.offset as usize, range.size as usize);
+        refused_at(
+            range.offset,
+            bytes_in_range(self.bytes, offset, size, ParseMode::Strict),
+        )
+    }
 }
 
-/// Returns the range in the file of the string at an offset of a string table.
-pub fn string_at(bytes: &[u8], range: &GoblinRange, offset: u64) -> Result<Option<GoblinRange>>
-    ensures { Returns (λ found. found) result (string_utf8_expected bytes.now range.now offset) }
+/// Stores the range in the file of the string at an offset of a string table, which need not be UTF-8.
+#[unsafe(no_mangle)]
+pub extern "C" fn goblin_string(
+    file: &GoblinFile<'_>,
+    strings: &GoblinRange,
+    offset: u64,
+    string: &mut GoblinRange,
+    why: &mut GoblinRefusal,
+) -> u32
+    ensures { Stores (string_expected file.now.bytes.now strings.now offset)
+        string.old why.old result string.new why.new }
 {
-    let strings = string_table_bytes(bytes, range)?;
+    let start = offset as usize;
+    let found = file.strings(strings).map(|table| {
+        if start >= table.len() {
+            return None;
+        }
+        Some(GoblinRange::new(strings.offset + offset, piece_len(table, start, 0) as u64))
+    });
+    store(found, string, why)
+}
+
+// Returns the range in the file of the string at an offset of a string table.
+fn string_at(file: &GoblinFile<'_>, range: &GoblinRange, offset: u64) -> Result<Option<GoblinRange>>
+    ensures { Returns (λ found. found) result (string_utf8_expected file.now.bytes.now range.now offset) }
+{
+    let strings = file.strings(range)?;
     match strtab::string_at(strings, 0, offset as usize) {
         Some(text) => {
             let place = range.offset + offset;
-            Ok(Some(GoblinRange {
-                offset: place,
-                size: refused_at(place, text)?.len() as u64,
-            }))
+            let size = refused_at(place, text)?.len() as u64;
+            Ok(Some(GoblinRange::new(place, size)))
         }
         None => Ok(None),
     }
@@ -58,7 +75,7 @@ pub extern "C" fn goblin_string_utf8(
     ensures { Stores (string_utf8_expected file.now.bytes.now strings.now offset)
         string.old why.old result string.new why.new }
 {
-    store(string_at(file.bytes, strings, offset), string, why)
+    store(string_at(file, strings, offset), string, why)
 }
 
 // Returns the bytes of the file up to the end of a string table that lies in it, without the steps that prepare a
@@ -130,10 +147,14 @@ pub extern "C" fn goblin_string_starts(
 
 // Returns the range in the file of the string at an offset of a string table, which need not be UTF-8, if a zero byte
 // of the table closes it.
-fn closed_string_at(bytes: &[u8], range: &GoblinRange, offset: u64) -> Result<Option<GoblinRange>>
-    ensures { Returns (λ found. found) result (string_closed_expected bytes.now range.now offset) }
+fn closed_string_at(
+    file: &GoblinFile<'_>,
+    range: &GoblinRange,
+    offset: u64,
+) -> Result<Option<GoblinRange>>
+    ensures { Returns (λ found. found) result (string_closed_expected file.now.bytes.now range.now offset) }
 {
-    let strings = string_table_bytes(bytes, range)?;
+    let strings = file.strings(range)?;
     let start = offset as usize;
     if start >= strings.len() {
         return Ok(None);
@@ -142,10 +163,7 @@ fn closed_string_at(bytes: &[u8], range: &GoblinRange, offset: u64) -> Result<Op
     if size == strings.len() - start {
         return Ok(None);
     }
-    Ok(Some(GoblinRange {
-        offset: range.offset + offset,
-        size: size as u64,
-    }))
+    Ok(Some(GoblinRange::new(range.offset + offset, size as u64)))
 }
 
 /// Stores the range in the file of the string at an offset of a string table, which need not be UTF-8, if a zero byte
@@ -162,7 +180,7 @@ pub extern "C" fn goblin_string_closed(
         string.old why.old result string.new why.new }
     ensures closed { (result ≡ OK) → IsCString file.now.bytes.now string.new }
 {
-    store(closed_string_at(file.bytes, strings, offset), string, why)
+    store(closed_string_at(file, strings, offset), string, why)
 }
 
 // Returns how many bytes there are up to the last zero byte, with that byte.
@@ -188,11 +206,8 @@ pub extern "C" fn goblin_closed_strings(
     ensures { Stores (closed_strings_expected file.now.bytes.now strings.now)
         closed.old why.old result closed.new why.new }
 {
-    let found = string_table_bytes(file.bytes, strings).map(|table| {
-        Some(GoblinRange {
-            offset: strings.offset,
-            size: closed_len(table) as u64,
-        })
+    let found = file.strings(strings).map(|table| {
+        Some(GoblinRange::new(strings.offset, closed_len(table) as u64))
     });
     store(found, closed, why)
 }
@@ -211,27 +226,12 @@ pub extern "C" fn goblin_strings(
     ensures { FillsEach (map (string_expected file.now.bytes.now strings.now) (take (length ranges.old) offsets.now))
         ranges.old why.old result ranges.new filled.new why.new }
 {
-    store_strings(file.bytes, strings, offsets, ranges, filled, why)
-}
-
-// Does the same for the file's bytes.
-fn store_strings(
-    bytes: &[u8],
-    strings: &GoblinRange,
-    offsets: &[u64],
-    ranges: &mut [GoblinRange],
-    filled: &mut u64,
-    why: &mut GoblinRefusal,
-) -> u32
-    ensures { FillsEach (map (string_expected bytes.now strings.now) (take (length ranges.old) offsets.now))
-        ranges.old why.old result ranges.new filled.new why.new }
-{
     *filled = 0;
     let count = offsets.len().min(ranges.len());
     if count == 0 {
         return OK;
     }
-    let table = match string_table_bytes(bytes, strings) {
+    let table = match file.strings(strings) {
         Ok(table) => table,
         Err(e) => return refuse(&e, why),
     };
@@ -242,10 +242,10 @@ fn store_strings(
             *filled = i as u64;
             return END;
         }
-        ranges[i] = GoblinRange {
-            offset: place + start as u64,
-            size: short_piece_len(table, start, 0) as u64,
-        };
+        ranges[i] = GoblinRange::new(
+            place + start as u64,
+            short_piece_len(table, start, 0) as u64,
+        );
     }
     *filled = count as u64;
     OK

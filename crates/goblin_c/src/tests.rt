@@ -1,9 +1,14 @@
 //! Each export on a small little endian file of the 32-bit class. It consists of its header, the strings
 //! "" and "f", two symbols, and three section headers: the null one, the strings' and the symbols'.
+use crate::file::{GoblinFile, GoblinHeader};
 use crate::layout::marked_layout;
-use crate::types::{GoblinFile, GoblinHeader, GoblinNote, GoblinRange, GoblinRefusal, GoblinReloc};
+use crate::notes::GoblinNote;
+use crate::numbers::GoblinRange;
+use crate::relocs::GoblinReloc;
+use crate::results::GoblinRefusal;
 use crate::*;
 
+mod build_id;
 mod bytes;
 mod dynamic;
 mod places;
@@ -29,7 +34,7 @@ const SYMBOLS: GoblinRange = GoblinRange {
 };
 
 fn range(offset: u64, size: u64) -> GoblinRange {
-    GoblinRange { offset, size }
+    GoblinRange::new(offset, size)
 }
 
 // The status of a call, what it stores in place of a mark, and the refusal that it stores. The mark is the one of the
@@ -635,6 +640,8 @@ fn writes_faults(rt: HostRuntime) {
             Overflowed: true";
         24, 0, [0; 4] => "Malformed entity: Integer do not fit: out of range integral type \
             conversion attempted";
+        24, 7, [4294967296, 0, 0, 0] => "Malformed entity: Integer do not fit: out of range integral type \
+            conversion attempted: 4294967296 at offset 506381209866536711";
     ];
 }
 

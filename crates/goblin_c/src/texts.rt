@@ -1,13 +1,10 @@
-//! The text of a refusal, written into a buffer of the caller's.
-ghost use Rattle.std.specs.Prelude.{◌≡◌, ◌+◌, ◌≤◌, ◌<◌, ◌++◌, IsAscii, IsTrue, drop, length, take};
-ghost use Rattle.goblin_base.specs.Texts.{digits_text};
-ghost use Rattle.goblin_base.specs.Texts.{facts_of, is_short, facts_text, part_text, word_of};
-ghost use Rattle.goblin_c.specs.FilledBuffer.{WritesText, laid};
-ghost use Rattle.goblin_c.specs.Texts.{converted_text, facts_from, item_text, TextIsSame};
+//! Texts, written into a buffer of the caller's and cut at its end, and the text of a refusal.
+ghost use Rattle.goblin_base.specs.Texts.{digits_text, facts_of, facts_text, is_short, part_text, word_of};
+ghost use Rattle.goblin_c.specs.Buffers.{WritesText, laid};
+ghost use Rattle.goblin_c.specs.Texts.{TextIsSame, converted_text, facts_from, is_misfit, item_text, misfit_text, with_misfit};
+ghost use Rattle.std.specs.Prelude.{IsAscii, IsTrue, drop, length, take, ◌++◌, ◌+◌, ◌<◌, ◌^◌, ◌≡◌, ◌≤◌};
 
-use crate::kinds;
-use crate::types::GoblinRefusal;
-use crate::writer::{write_after, write_text};
+use crate::results::{GoblinRefusal, INVALID_UTF8, PROGRAM_HEADERS, SECTION_HEADERS};
 use goblin_base::digits::Digits;
 use goblin_base::texts::{Kind, Part, Report};
 
@@ -37,9 +34,9 @@ fn item_text(item: u32) -> &'static str
     ensures bound { length result.now ≤ 15 }
 {
     match item {
-        kinds::INVALID_UTF8 => "invalid utf8",
-        kinds::SECTION_HEADERS => "section headers",
-        kinds::PROGRAM_HEADERS => "program headers",
+        INVALID_UTF8 => "invalid utf8",
+        SECTION_HEADERS => "section headers",
+        PROGRAM_HEADERS => "program headers",
         _ => "",
     }
 }
@@ -80,15 +77,39 @@ fn write_parts(report: &Report, buffer: &mut [u8]) -> u64
     len
 }
 
-// Writes the text of an error with a zero byte after it, or as much of them as the buffer holds. Returns the length of
-// the text.
-fn write_report(report: &Report, buffer: &mut [u8]) -> u64
-    requires item { length report.now.item.now ≤ 15 }
-    ensures { WritesText (facts_text (facts_of report.now)) buffer.old result buffer.new }
+// Reports whether a refusal has a number that doesn't fit its field.
+fn is_misfit(why: &GoblinRefusal) -> bool
+    ensures { result ≡ is_misfit why.now }
 {
-    let len = write_parts(report, buffer);
-    write_after(b"\0", len, buffer);
-    len
+    why.kind == Kind::IntegerFit.number() && why.first != 0
+}
+
+// Writes this number and the offset of the field after the bytes so far. Returns how many bytes there are then, if
+// none is cut.
+fn write_misfit(why: &GoblinRefusal, len: u64, buffer: &mut [u8]) -> u64
+    requires len { len ≤ 1700 }
+    ensures written { buffer.new ≡ take len buffer.old ++ laid (misfit_text why.now) (drop len buffer.old) }
+    ensures value { result ≡ len + length (misfit_text why.now) }
+    ensures bound { result ≤ 1800 }
+{
+    let len = write_after(b": ", len, buffer);
+    let len = write_digits(&Digits::decimal(why.first), len, buffer);
+    let len = write_after(b" at offset ", len, buffer);
+    write_digits(&Digits::decimal(why.offset), len, buffer)
+}
+
+// Writes the text of a refusal, which is reported so, with a zero byte after it, or as much of them as the buffer
+// holds. Returns the length of the text.
+fn write_report(why: &GoblinRefusal, report: &Report, buffer: &mut [u8]) -> u64
+    requires item { length report.now.item.now ≤ 15 }
+    ensures { WritesText (with_misfit why.now (facts_text (facts_of report.now))) buffer.old result buffer.new }
+{
+    let mut end = write_parts(report, buffer);
+    if is_misfit(why) {
+        end = write_misfit(why, end, buffer);
+    }
+    write_after(b"\0", end, buffer);
+    end
 }
 
 // Returns a refusal of a kind that C has, as the library's kind, numbers and item.
@@ -112,7 +133,7 @@ pub extern "C" fn goblin_refusal_to_str(why: &GoblinRefusal, text: &mut [u8]) ->
     ensures { WritesText (converted_text why.now) text.old result text.new }
 {
     match Kind::with_number(why.kind) {
-        Some(kind) => write_report(&report_from(why, kind), text),
+        Some(kind) => write_report(why, &report_from(why, kind), text),
         None => write_text("", text),
     }
 }
@@ -122,3 +143,39 @@ pub extern "C" fn goblin_refusal_to_str(why: &GoblinRefusal, text: &mut [u8]) ->
 pub fn laws()
     ensures { TextIsSame }
 {}
+
+/// Writes a text with a zero byte after it, or as much of them as the buffer holds. Returns the length of the text.
+pub fn write_text(text: &str, buffer: &mut [u8]) -> u64
+    ensures { WritesText text.now buffer.old result buffer.new }
+{
+    let len = write_bytes(text.as_bytes(), buffer);
+    write_after(b"\0", len, buffer);
+    len
+}
+
+/// Writes as much of a text after the bytes so far as the buffer holds. Returns how many bytes there are then, if none
+/// is cut.
+#[tactic(auto, using(crate::proofs::BufferLemmas::laid_steps))]
+pub fn write_after(text: &[u8], len: u64, buffer: &mut [u8]) -> u64
+    requires { len + length text.now < 2 ^ 64 }
+    ensures written { buffer.new ≡ take len buffer.old ++ laid text.now (drop len buffer.old) }
+    ensures value { result ≡ len + length text.now }
+{
+    if len < buffer.len() as u64 {
+        write_bytes(text, &mut buffer[len as usize..]);
+    }
+    len + text.len() as u64
+}
+
+// Writes as many bytes as the buffer holds. Returns the number of all bytes.
+#[tactic(auto, using(crate::proofs::BufferLemmas::laid_steps))]
+fn write_bytes(bytes: &[u8], buffer: &mut [u8]) -> u64
+    ensures written { buffer.new ≡ laid bytes.now buffer.old }
+    ensures value { result ≡ length bytes.now }
+{
+    let count = bytes.len().min(buffer.len());
+    for i in 0..count {
+        buffer[i] = bytes[i];
+    }
+    bytes.len() as u64
+}

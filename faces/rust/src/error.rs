@@ -175,7 +175,8 @@ mod tests {
         (20, 0, Kind::StrtabOffset { offset: 31, len: 5 }, "String table offset (31) is beyond file boundary (5)"),
         (21, 0, Kind::StrtabRange { size: 31, offset: 5, len: 6, overflow: true },
             "Strtable size (31) + offset (5) is out of bounds for 6 #bytes. Overflowed: true"),
-        (24, 0, Kind::IntegerFit(31), "Integer do not fit: out of range integral type conversion attempted"),
+        (24, 0, Kind::IntegerFit(31),
+            "Integer do not fit: out of range integral type conversion attempted: 31 at offset 7"),
     ];
 
     #[test]

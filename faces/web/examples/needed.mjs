@@ -18,5 +18,5 @@ await run('needed.mjs FILE..', (elf) => {
     if (!segment_of(PT_DYNAMIC)) return; // (a loader doesn't read section headers, by which `dynamic` could find some)
     // (of the rest each string would be read up to the end)
     const strings = elf.dynamic_strings().closed();
-    for (const { d_tag, d_val } of elf.dynamic()) if (NAMES.has(d_tag)) print(NAMES.get(d_tag), strings, d_val);
+    for (const { d_tag, d_val } of elf.dynamic_section()) if (NAMES.has(d_tag)) print(NAMES.get(d_tag), strings, d_val);
 });

@@ -2,9 +2,11 @@
 //! its header, two program headers, the strings "", "ab", two bytes that are not UTF-8, "" and "c", two relocations
 //! without addends, the bytes 1 to 8, and four section headers. The first program header and the first section
 //! header have type 0, so their sizes don't count. The third section has no bytes. The fourth ends past the file.
+use crate::file::GoblinHeader;
 use crate::layout::marked_layout;
+use crate::numbers::GoblinRange;
+use crate::results::GoblinRefusal;
 use crate::tests::{called, file_of, found, number_shown, over, range, searched, stored};
-use crate::types::{GoblinHeader, GoblinRange, GoblinRefusal};
 use crate::*;
 
 static FILE: &[u8; 308] = b"\x7fELF\x01\x02\x01\0\0\0\0\0\0\0\0\0\

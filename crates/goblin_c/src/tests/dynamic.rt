@@ -1,8 +1,9 @@
 //! The calls for the dynamic section, on bytes with two program headers, strings, and the section: a library, the
 //! address and the size of the strings, the end, and the library's own name after it.
 use crate::layout::marked_layout;
+use crate::numbers::GoblinRange;
+use crate::results::GoblinRefusal;
 use crate::tests::{called, header, over, range, stored, with_segments};
-use crate::types::{GoblinRange, GoblinRefusal};
 use crate::*;
 
 static BYTES: &[u8; 112] =

@@ -1,7 +1,7 @@
 //! Numbers in a range, offsets of addresses, and ranges that are cut to the file, on the file of `tests`.
 use crate::layout::marked_layout;
+use crate::numbers::GoblinRange;
 use crate::tests::{FILE, STRINGS, called, header, number_shown, over, range, with_segments};
-use crate::types::GoblinRange;
 use crate::*;
 
 fn number_in(part: GoblinRange, offset: u64, width: u64) -> (u32, u64, u64) {

@@ -1,10 +1,14 @@
 //! Records and numbers that are put into files of both classes and byte orders: the bytes after, and the refusals.
+use crate::dynamic::GoblinDyn;
+use crate::file::GoblinHeader;
 use crate::layout::marked_layout;
+use crate::numbers::GoblinRange;
+use crate::relocs::GoblinReloc;
+use crate::results::GoblinRefusal;
+use crate::sections::GoblinSection;
+use crate::segments::GoblinSegment;
+use crate::symbols::GoblinSymbol;
 use crate::tests::{FILE, SYMBOLS, called, changed, header, over, range, with_segments};
-use crate::types::{
-    GoblinDyn, GoblinHeader, GoblinRange, GoblinRefusal, GoblinReloc, GoblinSection, GoblinSegment,
-    GoblinSymbol,
-};
 use crate::*;
 
 // A refusal of marks.

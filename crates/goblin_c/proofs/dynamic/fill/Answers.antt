@@ -1,9 +1,10 @@
 -- After i turns the buffer holds the first i entries (`laid-item`). Where there is no entry for the next place, these
 -- were all (`none`), so the buffer stays as it is.
-use Rattle.goblin_c.proofs.Common.{◌≡◌, ◌≤◌, ◌<◌, ◌+◌, length, slice_get, Some, sym, ap, ◌∙◌, arith, set-get_or}
-use Rattle.goblin_c.proofs.Common.{slice_get_within, entries_from}
+use Rattle.goblin_c.proofs.{Common.◌∙◌, Common.◌≡◌, Common.◌≤◌}
+use Rattle.goblin_c.proofs.BufferLemmas.{ends-before, laid-enough, laid-item}
+use Rattle.goblin_c.proofs.Common.{Some, ap, arith, entries_from, length, slice_get, slice_get_within, sym, ◌+◌, ◌<◌}
 use Rattle.goblin_c.proofs.DynamicLemmas.{entry_at}
-use Rattle.goblin_c.proofs.FilledBufferLemmas.{ends-before, laid-enough, laid-item}
+use Rattle.std.proofs.lemmas.List.{set-get_or}
 use Rattle.goblin_c.proofs.dynamic.fill.Goals as goal
 
 pub loop-i-preserved : goal.loop-i-preserved

@@ -1,4 +1,4 @@
-use Rattle.goblin_c.proofs.Common.{◌≡◌, ◌≤◌, ◌-◌, length, min, take, laid, entries_from}
+use Rattle.goblin_c.proofs.Common.{entries_from, laid, length, min, take, ◌-◌, ◌≡◌, ◌≤◌}
 use Rattle.goblin_c.proofs.dynamic.fill.Given as goal
 
 abbrev pub invariant-loop-i : goal.invariant-loop-i

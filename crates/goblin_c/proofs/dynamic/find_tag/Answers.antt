@@ -1,7 +1,5 @@
-use Rattle.goblin_c.proofs.Common.{◌==◌, rules, ◌∙◌}
-use Rattle.std.proofs.lemmas.Iterator.Adapters.{YieldsList-from_skip}
-use Rattle.std.proofs.lemmas.Iterator.Consumers.{YieldsList-from_first}
-use Rattle.std.proofs.lemmas.Iterator.Search.{position_from_yields_List}
+use Rattle.goblin_c.proofs.Common.{YieldsList-from_first, YieldsList-from_skip, position_from_yields_List, rules, ◌==◌}
+use Rattle.goblin_c.proofs.Common.{◌∙◌}
 use Rattle.goblin_c.proofs.dynamic.find_tag.Goals as goal
 
 pub returns-clause-value : goal.returns-clause-value

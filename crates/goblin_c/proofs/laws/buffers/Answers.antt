@@ -1,5 +1,4 @@
-use Rattle.goblin_c.proofs.FilledBufferLemmas.{buffer_is_filled, text_is_closed}
-use Rattle.goblin_c.proofs.IndexLemmas.{filled_by_index}
+use Rattle.goblin_c.proofs.{BufferLemmas.buffer_is_filled, BufferLemmas.text_is_closed, ListLemmas.filled_by_index}
 use Rattle.goblin_c.proofs.laws.buffers.Goals as goal
 
 pub returns : goal.returns

@@ -1,4 +1,4 @@
-use Rattle.goblin_c.proofs.IndexLemmas.{context_is_the_headers}
+use Rattle.goblin_c.proofs.ListLemmas.{context_is_the_headers}
 use Rattle.goblin_c.proofs.laws.contexts.Goals as goal
 
 pub returns : goal.returns

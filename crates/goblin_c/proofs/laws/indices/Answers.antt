@@ -1,4 +1,4 @@
-use Rattle.goblin_c.proofs.IndexLemmas.{sections_by_index, segments_by_index, symbols_by_index, relocs_by_index}
+use Rattle.goblin_c.proofs.ListLemmas.{relocs_by_index, sections_by_index, segments_by_index, symbols_by_index}
 use Rattle.goblin_c.proofs.laws.indices.Goals as goal
 
 pub returns : goal.returns

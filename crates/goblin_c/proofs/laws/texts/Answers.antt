@@ -1,4 +1,4 @@
-use Rattle.goblin_c.proofs.TextLemmas.{parts_have_same_text}
+use Rattle.goblin_c.proofs.BufferLemmas.{parts_have_same_text}
 use Rattle.goblin_c.specs.TextLaws.{refusals_have_same_text}
 use Rattle.goblin_c.proofs.laws.texts.Goals as goal
 

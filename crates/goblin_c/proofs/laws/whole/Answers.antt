@@ -1,5 +1,4 @@
-use Rattle.goblin_c.proofs.IndexLemmas.{whole_header_is_the_librarys}
-use Rattle.goblin_c.proofs.WholeLemmas.{whole_header_keeps}
+use Rattle.goblin_c.proofs.ListLemmas.{whole_header_is_the_librarys, whole_header_keeps}
 use Rattle.goblin_c.proofs.laws.whole.Goals as goal
 
 pub returns : goal.returns

@@ -1,6 +1,7 @@
-use Rattle.goblin_c.proofs.Common.{◌≡◌, ◌≤◌, ◌+◌, ◌*◌, drop, map, field, is_width}
+use Rattle.goblin_base.specs.Fields.{field}
+use Rattle.goblin_c.proofs.Common.{drop, map, ◌*◌, ◌+◌, ◌≡◌, ◌≤◌}
+use Rattle.goblin_c.specs.{Numbers.is_width, Puts.misfit_from}
 use Rattle.std.specs.Prelude.{All, IsTrue}
-use Rattle.goblin_c.specs.Write.{misfit_from}
 use Rattle.goblin_c.proofs.misfit.first_misfit.Given as goal
 
 abbrev pub invariant-loop-width : goal.invariant-loop-width

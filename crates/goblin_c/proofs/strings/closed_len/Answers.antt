@@ -1,8 +1,7 @@
 -- The bytes from the last zero byte so far on are no zero bytes, and don't count (`closed_shorter`).
-use Rattle.goblin_c.proofs.Common.{◌≡◌, ap, sym, ◌∙◌, arith, length, take_all}
-use Rattle.goblin_c.proofs.ClosedLemmas.{closed_shorter, closed_whole}
+use Rattle.goblin_c.proofs.Common.{ap, arith, closed_len, length, sym, take_all, ◌∙◌}
+use Rattle.goblin_c.proofs.StringLemmas.{closed_shorter, closed_whole}
 use Rattle.goblin_c.proofs.strings.closed_len.Goals as goal
-use Rattle.goblin_c.specs.Bytes.{closed_len}
 
 pub loop-len-init : goal.loop-len-init
 loop-len-init c =

@@ -1,6 +1,5 @@
-use Rattle.goblin_c.proofs.Common.{◌≡◌, ◌≤◌, ℕ, length, take}
+use Rattle.goblin_c.proofs.Common.{closed_len, length, take, ◌≡◌, ◌≤◌}
 use Rattle.goblin_c.proofs.strings.closed_len.Given as goal
-use Rattle.goblin_c.specs.Bytes.{closed_len}
 
 abbrev pub invariant-loop-len : goal.invariant-loop-len
 invariant-loop-len l = (l.len ≤ length l.strings) × (closed_len l.strings ≡ closed_len (take l.len l.strings))

@@ -1,4 +1,4 @@
-use Rattle.goblin_c.proofs.ClosedLemmas.{is_c_string}
+use Rattle.goblin_c.proofs.StringLemmas.{is_c_string}
 use Rattle.goblin_c.proofs.strings.goblin_string_closed.Goals as goal
 
 pub returns-clause-closed : goal.returns-clause-closed

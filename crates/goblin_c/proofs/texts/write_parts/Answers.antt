@@ -1,10 +1,11 @@
 -- After each part the buffer holds the text of the parts so far, or as much of it as fits, and `len` is the length of
 -- that text (`laid-part`, `long-part`): with one part more the text goes on with that part's (`parts_text_more`). The
 -- length is bounded because there are at most 16 parts, each of at most 100 bytes (`short_parts`).
-use Rattle.goblin_c.proofs.Common.{ℕ, List, length, ◌≤◌, ◌++◌, ◌+◌, ◌∙◌, ap, append_assoc, arith, sym, take, facts_of}
-use Rattle.goblin_c.proofs.Common.{parts_text, prefix}
 use Rattle.goblin_base.proofs.PartsLemmas.{parts_text_more}
-use Rattle.goblin_c.proofs.TextLemmas.{laid-part, long-part, short_parts}
+use Rattle.goblin_base.specs.Texts.{parts_text, prefix}
+use Rattle.goblin_c.proofs.BufferLemmas.{laid-part, long-part, short_parts}
+use Rattle.goblin_c.proofs.Common.{List, ap, arith, facts_of, length, sym, take, ℕ, ◌++◌, ◌+◌, ◌∙◌, ◌≤◌}
+use Rattle.std.proofs.Common.{append_assoc}
 use Rattle.goblin_c.proofs.texts.write_parts.Goals as goal
 
 pub write_part-len-requires-clause-part : goal.write_part-len-requires-clause-part

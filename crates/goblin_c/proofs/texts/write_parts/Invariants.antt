@@ -1,4 +1,5 @@
-use Rattle.goblin_c.proofs.Common.{◌≡◌, ◌≤◌, ◌+◌, ◌*◌, ◌++◌, length, take, facts_of, parts_text, prefix, laid}
+use Rattle.goblin_base.specs.Texts.{parts_text, prefix}
+use Rattle.goblin_c.proofs.Common.{facts_of, laid, length, take, ◌*◌, ◌++◌, ◌+◌, ◌≡◌, ◌≤◌}
 use Rattle.goblin_c.proofs.texts.write_parts.Given as goal
 
 abbrev pub invariant-loop-part : goal.invariant-loop-part

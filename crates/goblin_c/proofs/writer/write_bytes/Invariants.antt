@@ -1,5 +1,0 @@
-use Rattle.goblin_c.proofs.Common.{◌≡◌, take, laid}
-use Rattle.goblin_c.proofs.writer.write_bytes.Given as goal
-
-abbrev pub invariant-loop-i : goal.invariant-loop-i
-invariant-loop-i l = l.buffer ≡ laid (take l.i l.bytes) l.initial.buffer
