@@ -1,26 +1,26 @@
 #!/usr/bin/env python3
 """Writes the constants of the library's records for C, Rust, JavaScript and Python.
 
-    python3 faces/constants.py            writes the end of faces/c/goblin.h, faces/rust/src/constants/*.rs, constants.js and interface.js of
-                                          faces/web, and constants.py, interface.py and names.py of faces/python/goblin_elf
-    python3 faces/constants.py --made     writes only the files for JavaScript and Python
-    python3 faces/constants.py --check    writes nothing, and fails if goblin.h or a file for Rust is not what it would write, or if a
-                                          constant is not in the table that the library's are compared with, crates/goblin_names/stdout
+    python3 faces/constants.py            writes the end of faces/c/goblin.h, constants.js and interface.js of faces/web, constants.py, interface.py
+                                          and names.py of faces/python/goblin_elf, and by faces/rust/generated.py the file for Rust
+    python3 faces/constants.py --made     writes only the files for JavaScript, Python and Rust
+    python3 faces/constants.py --check    writes nothing, and fails if goblin.h is not what it would write, or if a constant is not in the table
+                                          that the library's are compared with, crates/goblin_names/stdout
     python3 faces/constants.py --fields   prints STRUCT(name) for each struct of goblin.h, and FIELD(name, field, number) for each of its fields
                                           in order, for faces/c/tests
     python3 faces/constants.py --nulls    prints a program whose lines pass a null pointer for each argument that may not be null, and read no
                                           status, for a test of what compilers warn of
 
 The names, values, types and comments are those of crates/goblin_headers and crates/goblin_records, and of faces/other_constants.rs for what
-the library doesn't have. So a constant is written by hand only there. Git has goblin.h, because it is read as documentation, and the files
-for Rust, so that cargo can take the crate from a repository. It ignores the files for JavaScript and Python, which faces/install.sh makes;
-by hand they must be made before node or Python reads them.
+the library doesn't have. So a constant is written by hand only there. Git has goblin.h, because it is read as documentation. It ignores the
+others, which faces/install.sh makes, and the one for Rust also cargo; by hand they must be made before node or Python reads them.
 
 Flags of sections and indices of sections get the type of the field that holds them: `sh_flags` and `st_shndx`. What the dynamic section holds
-has 64 bits. JavaScript and Python also get what goblin.h declares, and the number of the interface.
+has 64 bits. Each language also gets what goblin.h declares, and the number of the interface.
 """
 import os
 import re
+import subprocess
 import sys
 import textwrap
 
@@ -43,7 +43,6 @@ MORE = {'program_header': ['crates/goblin_headers/src/whole_part.rt'], 'other': 
         'dynamic': ['crates/goblin_dynamic/src/tags.rt', 'crates/goblin_dynamic/src/entry.rt']}
 CLASSES = (32, 64)
 MADE = "Made by faces/constants.py of the library's constants: do not edit."
-MADE_OTHER = 'Made by faces/constants.py of faces/other_constants.rs: do not edit.'
 
 
 class Constant:
@@ -121,51 +120,6 @@ def listed(constants, write, heading_format, has_gaps=True):
         elif constant.is_apart and has_gaps:
             text += '\n'
         text += write(constant)
-    return text
-
-
-# ---- Rust ----
-
-def rust_constant(constant):
-    kind = constant.kind
-    if constant.has_wide_field():
-        kind = kind.replace('u32', 'u64' if constant.prefix() == 'SHF' else 'usize')
-    value = constant.value
-    if constant.is_list():
-        value = '[\n' + ''.join(f'    {name},\n' for name in constant.items()) + ']'
-    return ''.join(f'/// {line}\n' for line in constant.comment) + f'pub const {constant.name}: {kind} = {value};\n'
-
-
-def rust_module(record, bits, constants):
-    defined = [constant.name for constant in constants]
-    values = ' '.join(constant.value for constant in constants)
-    used = sorted(set(re.findall(r'\b[A-Z]\w+', values)) - set(defined))
-    use = ''.join(f'use super::{name};\n' for name in used)
-    body = textwrap.indent((use + '\n' if use else '') + listed(constants, rust_constant, '// {}').lstrip('\n'), '    ')
-    return f'\n/// What the {bits}-bit class has of its own.\npub mod {record}{bits} {{\n{body}}}\n'
-
-
-def rust_files():
-    for record, crate, _, content in RECORDS:
-        text = f'//! {content}{", as the library has them" if crate else ""}.\n// {MADE if crate else MADE_OTHER}\n'
-        text += listed(constants_of(record, crate), rust_constant, '// {}')
-        for bits in CLASSES:
-            constants = constants_of_class(record, crate, bits)
-            text += rust_module(record, bits, constants) if constants else ''
-        yield f'faces/rust/src/constants/{record}.rs', text
-    yield 'faces/rust/src/constants/names.rs', rust_names()
-
-
-def rust_names():
-    """The names of numbers, as crates/goblin_names prints them: each from a number on, up to that of the next line."""
-    text = f'//! The names of numbers: each is that of its number and of those up to the next one.\n// {MADE}\n'
-    lines = re.findall(r'^(\w+_to_str|note of "(?:GNU|CORE)") (\d+) (\w+)$', read('crates/goblin_names/stdout'), re.M)
-    for table in dict.fromkeys(table for table, _, _ in lines):
-        # (notes of any other name have those of GNU)
-        constant = re.sub(r'note of "(\w+)"', r'note_type_\1', table).replace('_to_str', '').upper()
-        # (no name has a space)
-        pairs = textwrap.fill(' '.join(f'({number},_"{name}"),' for of, number, name in lines if of == table), WIDTH - 4).replace(',_', ', ')
-        text += f'\npub static {constant}: &[(u32, &str)] = &[\n{textwrap.indent(pairs, "    ")}\n];\n'
     return text
 
 
@@ -377,7 +331,7 @@ def words_of(comment):
     return re.sub(r'\ba (?=[ES]\w*_ )', 'an ', re.sub(r'\bGOBLIN_(?:REFUSED_|ITEM_)?', '', ' '.join(comment.split())))
 
 
-def structs(in_c=False):
+def structs(in_c=False, words=words_of):
     """Yields each struct that goblin_layout marks: its name, its comment, and its fields, each with its code and comment. A range is two fields,
     whose names are those of Python or of C."""
     pattern = r'(?:/\* ([^/]*?) \*/\n)?typedef struct \{\n(.*?)^\} goblin_(\w+)_t;'
@@ -389,13 +343,13 @@ def structs(in_c=False):
             sys.exit(f'constants.py: each field of goblin_{name}_t must have a line of its own')
         for kind, field, text in declared:
             if kind != 'goblin_range_t':
-                fields.append((field, CODES.get(kind), words_of(text)))
+                fields.append((field, CODES.get(kind), words(text)))
                 continue
             # (the standard's names of its two numbers)
             names = {'section': ('sh_offset', 'sh_size'), 'segment': ('p_offset', 'p_filesz')}.get(name, (f'{field}_offset', f'{field}_size'))
             names = (f'{field}.offset', f'{field}.size') if in_c else names
-            fields += [(names[0], 'Q', words_of(text)), (names[1], 'Q', '')]
-        yield name, words_of(comment), fields
+            fields += [(names[0], 'Q', words(text)), (names[1], 'Q', '')]
+        yield name, words(comment), fields
 
 
 def ordered(name, fields):
@@ -627,21 +581,21 @@ def main(arguments):
         for name, _, fields in structs(in_c=True):
             print(f'STRUCT({name})', *(f'FIELD({name}, {field}, {number})' for number, (field, _, _) in enumerate(fields, 1)), sep='\n')
         return 0
-    of_git = [(HEADER, c_file()), *rust_files()]
+    is_stale = read(HEADER) != c_file()
     if arguments == ['--check']:
-        stale = [name for name, text in of_git if not os.path.exists(path_of(name)) or read(name) != text]
-        for name in stale:
-            print(f'{name} does not have the constants of the library: run python3 faces/constants.py')
+        if is_stale:
+            print(f'{HEADER} does not have the constants of the library: run python3 faces/constants.py')
         for path in missing():
             print(f'crates/goblin_names/stdout does not have {path}')
-        return 1 if stale or missing() else 0
+        return 1 if is_stale or missing() else 0
     write('faces/web/constants.js', js_file())
     write('faces/web/interface.js', js_interface())
     for name, text in [('constants', py_file()), ('interface', py_interface()), ('names', py_names())]:
         write(f'faces/python/goblin_elf/{name}.py', text)
-    for name, text in [] if arguments else of_git:
-        if write(name, text):
-            print(f'{name} is written anew')
+    if is_stale and not arguments:
+        write(HEADER, c_file())
+        print(f'{HEADER} is written anew')
+    subprocess.run([sys.executable, path_of('faces/rust/generated.py')], check=True)
     return 0
 
 

@@ -12,6 +12,7 @@ if ! cargo --version > "$folder/output" 2>&1 || ! rustc --version > "$folder/out
     exit 0
 fi
 quietly cargo test --offline --manifest-path $crate
+python3 faces/rust/generated.py --check
 awk '/^test result: ok\. / { tests += $4 } END { print "the Rust crate passes " tests + 0 " tests"; exit tests < 60 }' "$folder/output"
 # Names that nothing closes take little memory, whatever their number.
 tests=$(find "$folder/target/debug/deps" -name 'files-*[!.]?')
@@ -44,6 +45,17 @@ for program in "$folder/needed" "$examples/needed"; do
     quietly timeout 20 "$program" "$folder/open"
     [ "$(grep -c '^needed: no zero byte' "$folder/output")" -eq 100000 ] || fail "needed lists other names: $(head -n 3 "$folder/output")"
 done
+# segments doesn't try each section for each segment. (It has 26,000 of both: the file begins with its headers.)
+python3 - << 'END' > "$folder/many"
+import struct, sys
+count = 26000
+header = struct.pack('<4s12B2HI3QI6H', b'\x7fELF', 2, 1, 1, *[0] * 9, 3, 62, 1, 0, 64 + 64 * count, 64, 0, 64, 56, count, 64, count, 0)
+starts = [index if index % 2 else 1000000 + index for index in range(count + 1)]
+sections = [struct.pack('<2I4Q2I2Q', 0, 1, 2, starts[index + 1], starts[index], 1, 0, 0, 1, 0) for index in range(count)]
+sys.stdout.buffer.write(header + b''.join(sections) + struct.pack('<2I6Q', 1, 4, 0, 0, 0, count, count, 1) * count)
+END
+quietly timeout 10 "$examples/segments" "$folder/many"
+[ "$(grep -c '^[0-9]* PT_LOAD$' "$folder/output")" -eq 26000 ] || fail "segments lists other segments: $(head -n 3 "$folder/output")"
 oldest=$(awk -F '"' '/^rust-version = / { print $2 }' $crate)
 if /usr/bin/rustc --version 2> "$folder/output" | grep -qF "rustc $oldest."; then
     quietly env PATH=/usr/bin:/bin CARGO_TARGET_DIR="$folder/oldest" /usr/bin/cargo test --offline --manifest-path $crate

@@ -12,15 +12,17 @@ use std::path::{Path, PathBuf};
 use std::process::Command;
 
 const LIBRARY: &str = "libgoblin_c.a";
+const TO_LIB: &str = "GOBLIN_C_LIB to its lib";
+const VERSION: &str = env!("CARGO_PKG_VERSION");
+const PATH: &str = "PKG_CONFIG_PATH names the folder of goblin_c.pc";
+const COPIED: &str = "it is a copy, outside of its installation and its repository";
 
-/// Returns `e_machine` of a platform that the library is made for. (Windows passes arguments in other registers, and
-/// macOS links no ELF file.)
+/// The platforms that the library is made for, each with its `e_machine`. (Windows passes arguments in other registers,
+/// and macOS links no ELF file.)
+const MACHINES: [(&str, u16); 2] = [("x86_64-linux", 62), ("aarch64-linux", 183)];
+
 fn machine_of(platform: &str) -> Option<u16> {
-    match platform {
-        "x86_64-linux" => Some(62),
-        "aarch64-linux" => Some(183),
-        _ => None,
-    }
+    MACHINES.iter().find(|(other, _)| *other == platform).map(|(_, machine)| *machine)
 }
 
 /// Returns why the library in a folder can't be linked for a platform, if it can't. It reads its first object file.
@@ -97,32 +99,38 @@ fn warn(folders: &[PathBuf], platform: &str) {
         println!("cargo:warning=looked for in {}{}: {}", by, folder.display(), fault);
     }
     if named().is_none() && from_pkg_config().is_none() {
-        println!(
-            "cargo:warning=looked for by pkg-config: it finds no goblin_c {}; PKG_CONFIG_PATH names the folder of \
-             goblin_c.pc",
-            env!("CARGO_PKG_VERSION")
-        );
+        println!("cargo:warning=looked for by pkg-config: it finds no goblin_c {}; {}", VERSION, PATH);
     }
     if named().is_none() && beside(&here(), platform).is_none() {
-        println!(
-            "cargo:warning=no folder beside this crate was looked in: it is a copy, outside of its installation and \
-             its repository"
-        );
+        println!("cargo:warning=no folder beside this crate was looked in: {}", COPIED);
     }
     if machine_of(platform).is_none() {
         println!("cargo:warning=it is made for Linux on x86_64 and on aarch64 alone");
         return;
     }
     let target = platform.replace('-', "-unknown-") + "-gnu";
-    let archive = format!("goblin_c-{}-{}.tar.gz", env!("CARGO_PKG_VERSION"), target);
-    println!(
-        "cargo:warning=to get it, unpack {}: use its share/goblin_c/rust, or set GOBLIN_C_LIB to its lib",
-        archive
-    );
+    let archive = format!("goblin_c-{}-{}.tar.gz", VERSION, target);
+    println!("cargo:warning=to get it, unpack {}: use its share/goblin_c/rust, or set {}", archive, TO_LIB);
     println!("cargo:warning=in the repository of goblin_c, `make dist TARGET={}` makes that archive", target);
 }
 
+/// Makes src/generated.rs, if this crate is in its repository. Elsewhere it has the file.
+fn generate() {
+    let (here, script) = (here(), "../constants.py");
+    if here.join(script).exists() {
+        let crates = ["headers/src", "records/src", "dynamic/src", "names/stdout"];
+        let sources = crates.iter().map(|source| format!("../../crates/goblin_{}", source));
+        let others = [script, "generated.py", "../other_constants.rs", "../c/goblin.h"];
+        for source in sources.chain(others.map(String::from)) {
+            println!("cargo:rerun-if-changed={}", here.join(source).display());
+        }
+        let ended = Command::new("python3").arg(here.join("generated.py")).status();
+        assert!(ended.map_or(false, |status| status.success()), "src/generated.rs is made by python3, which failed");
+    }
+}
+
 fn main() {
+    generate();
     println!("cargo:rerun-if-env-changed=GOBLIN_C_LIB");
     println!("cargo:rerun-if-env-changed=PKG_CONFIG_PATH");
     println!("cargo:rerun-if-env-changed=PKG_CONFIG_LIBDIR");

@@ -44,7 +44,7 @@ def main(folder, *archives):
     manifest = crate['Cargo.toml'].decode()
     crate['Cargo.toml'] = manifest.replace('publish = false\n', 'readme = "README.md"\n').encode()
     crate['README.md'] = page_of(crate['src/lib.rs'].decode()).encode()
-    # (which its tests read)
+    # (which documents the calls)
     crate['goblin.h'] = files['include/goblin.h']
     for other, platform, files in contents:
         if other != version:

@@ -5,25 +5,23 @@ use crate::sym::{Sym, Symtab, STT_FUNC, STT_GNU_IFUNC, STT_NOTYPE, STT_OBJECT};
 use alloc::collections::BinaryHeap;
 use alloc::vec::Vec;
 
-/// A sorted map of the addresses of a symbol table, for many searches. It finds what [`Symtab::at`] finds in a time
-/// that grows with the logarithm of the number of symbols. It is sorted by Rust's own sort, and is not part of the
-/// library: it is compared with [`Symtab::at`], but not proved.
+/// A sorted map of the addresses of a symbol table, for many searches. It finds what [`Symtab::symbol_by_address`]
+/// does, in a time that grows with the logarithm of the number of symbols. It is sorted by Rust's own sort, and is not
+/// part of the library: it is compared with that call, but not proved.
 ///
 /// ```
-/// # fn main() -> Result<(), Box<dyn std::error::Error>> {
 /// # let bytes = std::fs::read(std::env::current_exe()?)?;
 /// let elf = goblin_rs::Elf::parse(&bytes)?;
 /// if let Some(symbols) = elf.syms()? {
 ///     let map = symbols.address_map();
 ///     for address in [elf.entry(), elf.entry() + 4] {
-///         if let Some(symbol) = map.symbol(address) {
+///         if let Some((_, symbol)) = map.symbol_by_address(address) {
 ///             println!("{address:x} {}+{:#x}", symbols.name(&symbol)?.unwrap_or("?"), address - symbol.st_value);
 ///         }
-///         assert_eq!(map.at(address), symbols.at(address));
+///         assert_eq!(map.symbol_by_address(address), symbols.symbol_by_address(address));
 ///     }
 /// }
-/// # Ok(())
-/// # }
+/// # Ok::<(), Box<dyn std::error::Error>>(())
 /// ```
 #[derive(Clone, Debug)]
 pub struct AddressMap<'a> {
@@ -64,17 +62,12 @@ impl<'a> AddressMap<'a> {
         AddressMap { symbols, pieces: sweep.pieces }
     }
 
-    /// Returns the index of the symbol that contains an address, as [`Symtab::at`] does.
+    /// Returns the symbol of an address, and its index, as [`Symtab::symbol_by_address`] does.
     #[must_use]
-    pub fn at(&self, address: u64) -> Option<usize> {
+    pub fn symbol_by_address(&self, address: u64) -> Option<(usize, Sym)> {
         let after = self.pieces.partition_point(|piece| piece.0 <= address);
-        self.pieces[..after].last()?.1
-    }
-
-    /// Returns the symbol that contains an address, whose index [`AddressMap::at`] returns.
-    #[must_use]
-    pub fn symbol(&self, address: u64) -> Option<Sym> {
-        self.symbols.get(self.at(address)?)
+        let index = self.pieces[..after].last()?.1?;
+        Some((index, self.symbols.get(index)?))
     }
 }
 

@@ -1,10 +1,10 @@
 //! The dynamic section, and the constants of its entries.
-pub use crate::constants::dynamic::*;
+pub use crate::generated::dynamic::*;
+use crate::generated::{NOT_COUNTED, NOT_LOADED, NO_STRING};
 use crate::elf::Elf;
 use crate::error::{Error, Result};
 use crate::items::made;
 use crate::program_header::{ProgramHeader, PT_INTERP};
-pub use crate::raw::Dyn;
 use crate::reloc::RelocSection;
 use crate::strtab::Strtab;
 use crate::{raw, sys};
@@ -12,13 +12,22 @@ use alloc::{vec, vec::Vec};
 use core::iter::FusedIterator;
 use core::ops::Range;
 
+/// An entry of the dynamic section.
+///
+/// ```
+/// use goblin_rs::dynamic::{Dyn, DF_BIND_NOW, DT_FLAGS};
+///
+/// let entry = Dyn { d_tag: DT_FLAGS, d_val: DF_BIND_NOW };
+/// assert_eq!(entry.d_tag, 30);
+/// ```
+pub use crate::raw::Dyn;
+
 // The number of entries that are read at a time.
 const BATCH: usize = 32;
 
 /// The dynamic section of a file, which says what a program needs of the loader. It is inside the file.
 ///
 /// ```
-/// # fn main() -> Result<(), Box<dyn std::error::Error>> {
 /// # let bytes = std::fs::read(std::env::current_exe()?)?;
 /// use goblin_rs::dynamic::DT_NEEDED;
 ///
@@ -29,8 +38,7 @@ const BATCH: usize = 32;
 ///         println!("{:?}", strings.get(offset as usize)?);
 ///     }
 /// }
-/// # Ok(())
-/// # }
+/// # Ok::<(), Box<dyn std::error::Error>>(())
 /// ```
 #[derive(Clone, Copy, Debug)]
 pub struct Dynamic<'a> {
@@ -47,13 +55,11 @@ impl<'a> Dynamic<'a> {
     /// Returns an iterator over the entries, up to the first one of tag `DT_NULL`.
     ///
     /// ```
-    /// # fn main() -> Result<(), Box<dyn std::error::Error>> {
     /// # let bytes = std::fs::read(std::env::current_exe()?)?;
     /// if let Some(dynamic) = goblin_rs::Elf::parse(&bytes)?.dynamic()? {
     ///     assert!(dynamic.entries().all(|entry| entry.d_tag != goblin_rs::dynamic::DT_NULL));
     /// }
-    /// # Ok(())
-    /// # }
+    /// # Ok::<(), Box<dyn std::error::Error>>(())
     /// ```
     pub fn entries(&self) -> DynIterator<'a> {
         DynIterator { dynamic: *self, batch: [Dyn::default(); BATCH], left: 0..0, next: Some(0) }
@@ -68,13 +74,13 @@ impl<'a> Dynamic<'a> {
 
     // Returns the string at an offset, which is the value of a tag.
     fn text(&self, strings: &Strtab<'a>, tag: u64, offset: u64) -> Result<&'a str> {
-        strings.get(offset as usize)?.ok_or_else(|| Error::no_string(tag, offset, self.range.offset))
+        strings.get(offset as usize)?.ok_or_else(|| Error::own(NO_STRING, tag, self.range.offset).second(offset))
     }
 
     // Fails if there are symbols, whose number the section does not have.
     pub(crate) fn has_no_symbols(&self) -> Result<()> {
         let address = self.last(DT_SYMTAB);
-        address.map_or(Ok(()), |address| Err(Error::not_counted(address, self.range.offset)))
+        address.map_or(Ok(()), |address| Err(Error::own(NOT_COUNTED, address, self.range.offset)))
     }
 
     // Returns the value of the last entry with a tag. Of several, goblin and the loader of glibc take that one.
@@ -103,7 +109,6 @@ impl<'a> Dynamic<'a> {
 /// An iterator over the entries of a dynamic section.
 ///
 /// ```
-/// # fn main() -> Result<(), Box<dyn std::error::Error>> {
 /// # let bytes = std::fs::read(std::env::current_exe()?)?;
 /// use goblin_rs::dynamic::DynIterator;
 ///
@@ -111,8 +116,7 @@ impl<'a> Dynamic<'a> {
 ///     let entries: DynIterator = dynamic.entries();
 ///     assert!(entries.count() > 0);
 /// }
-/// # Ok(())
-/// # }
+/// # Ok::<(), Box<dyn std::error::Error>>(())
 /// ```
 #[derive(Clone, Debug)]
 #[must_use = "iterators are lazy and do nothing unless consumed"]
@@ -145,7 +149,6 @@ impl FusedIterator for DynIterator<'_> {}
 /// An iterator over the values of the entries of a dynamic section with a tag.
 ///
 /// ```
-/// # fn main() -> Result<(), Box<dyn std::error::Error>> {
 /// # let bytes = std::fs::read(std::env::current_exe()?)?;
 /// use goblin_rs::dynamic::{DynValues, DT_NEEDED};
 ///
@@ -153,8 +156,7 @@ impl FusedIterator for DynIterator<'_> {}
 ///     let offsets: DynValues = dynamic.values(DT_NEEDED);
 ///     println!("{} libraries", offsets.count());
 /// }
-/// # Ok(())
-/// # }
+/// # Ok::<(), Box<dyn std::error::Error>>(())
 /// ```
 #[derive(Clone, Debug)]
 #[must_use = "iterators are lazy and do nothing unless consumed"]
@@ -196,15 +198,13 @@ impl<'a> Elf<'a> {
     /// these entries. They have addends if the value of `DT_PLTREL` is `DT_RELA`.
     ///
     /// ```
-    /// # fn main() -> Result<(), Box<dyn std::error::Error>> {
     /// # let bytes = std::fs::read(std::env::current_exe()?)?;
     /// let elf = goblin_rs::Elf::parse(&bytes)?;
     /// let symbols = elf.dynsyms()?.unwrap_or_default();
     /// for reloc in elf.pltrelocs()? {
     ///     assert!(symbols.get(reloc.r_sym).is_some());
     /// }
-    /// # Ok(())
-    /// # }
+    /// # Ok::<(), Box<dyn std::error::Error>>(())
     /// ```
     ///
     /// # Errors
@@ -224,14 +224,12 @@ impl<'a> Elf<'a> {
     /// Returns the names of the libraries that are needed (`DT_NEEDED`), in order.
     ///
     /// ```
-    /// # fn main() -> Result<(), Box<dyn std::error::Error>> {
     /// # let bytes = std::fs::read(std::env::current_exe()?)?;
     /// let elf = goblin_rs::Elf::parse(&bytes)?;
     /// for library in elf.libraries()? {
     ///     println!("needs {library}");
     /// }
-    /// # Ok(())
-    /// # }
+    /// # Ok::<(), Box<dyn std::error::Error>>(())
     /// ```
     ///
     /// # Errors
@@ -315,7 +313,7 @@ impl<'a> Elf<'a> {
             _ => return Ok(RelocSection::default()),
         };
         let offset = self.address_to_offset(address)?;
-        let offset = offset.ok_or_else(|| Error::not_loaded(address, dynamic.range.offset))?;
+        let offset = offset.ok_or_else(|| Error::own(NOT_LOADED, address, dynamic.range.offset))?;
         RelocSection::of(self, raw::Range { offset, size }, is_rela)
     }
 }

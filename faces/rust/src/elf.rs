@@ -1,21 +1,22 @@
 //! A file as a whole.
 use crate::dynamic::{Dynamic, DF_1_PIE, DT_FLAGS_1};
-use crate::error::{Error, Result, RELOCATIONS, SYMBOLS};
+use crate::error::{Error, Result};
 use crate::file::File;
+use crate::generated::{ITEM_RELOCATIONS, ITEM_SYMBOLS};
 use crate::header::{Header, ET_DYN, ET_REL};
 use crate::note::{self, AnyNote, NoteBytes, NoteIterator, Notes};
-use crate::part::Part;
-use crate::program_header::{ProgramHeader, ProgramHeaders, SegmentSections};
-use crate::reloc::{holds_relocs, RelocSection, RelocSections};
+use crate::part::{Part, Ranged};
+use crate::program_header::{ProgramHeader, ProgramHeaders, SectionMap, SegmentSections};
+use crate::reloc::{holds_relocs, RelocSection};
 use crate::section_header::{SectionHeader, SectionHeaders, SHT_DYNSYM, SHT_RELA, SHT_SYMTAB};
 use crate::strtab::Strtab;
 use crate::sym::Symtab;
 use crate::sys;
+use alloc::vec::Vec;
 
 /// A file in memory, with its header. Everything else is read on demand.
 ///
 /// ```
-/// # fn main() -> Result<(), Box<dyn std::error::Error>> {
 /// # let bytes = std::fs::read(std::env::current_exe()?)?;
 /// let elf = goblin_rs::Elf::parse(&bytes)?;
 /// println!("entry {:#x}", elf.entry());
@@ -23,8 +24,7 @@ use crate::sys;
 ///     let code = elf.section_data(&text)?.unwrap_or(&[]);
 ///     assert_eq!(code.len() as u64, text.sh_size);
 /// }
-/// # Ok(())
-/// # }
+/// # Ok::<(), Box<dyn std::error::Error>>(())
 /// ```
 #[derive(Clone, Copy, Debug)]
 pub struct Elf<'a> {
@@ -64,7 +64,6 @@ impl<'a> Elf<'a> {
     /// Of a file with more headers the first 65,535 section headers and 65,534 program headers are counted.
     ///
     /// ```
-    /// # fn main() -> Result<(), Box<dyn std::error::Error>> {
     /// # let bytes = std::fs::read(std::env::current_exe()?)?;
     /// use goblin_rs::Elf;
     ///
@@ -74,8 +73,7 @@ impl<'a> Elf<'a> {
     /// assert!(cut.section_headers().is_err());
     /// assert_eq!(cut.whole().section_headers()?.len(), 1);
     /// assert_eq!(cut.whole().program_headers()?, elf.program_headers()?);
-    /// # Ok(())
-    /// # }
+    /// # Ok::<(), Box<dyn std::error::Error>>(())
     /// ```
     #[must_use]
     pub fn whole(&self) -> Self {
@@ -170,7 +168,6 @@ impl<'a> Elf<'a> {
     /// Returns the index and the header of the first section with a name, from an index on.
     ///
     /// ```
-    /// # fn main() -> Result<(), Box<dyn std::error::Error>> {
     /// # let bytes = std::fs::read(std::env::current_exe()?)?;
     /// let elf = goblin_rs::Elf::parse(&bytes)?;
     /// let mut size = 0;
@@ -180,17 +177,12 @@ impl<'a> Elf<'a> {
     ///     first = index + 1;
     /// }
     /// assert_eq!(size, 0); // (only object files have groups)
-    /// # Ok(())
-    /// # }
+    /// # Ok::<(), Box<dyn std::error::Error>>(())
     /// ```
     ///
     /// # Errors
     /// If the section headers or their names are not inside the file.
-    pub fn section_by_name(
-        &self,
-        name: impl AsRef<[u8]>,
-        first: usize,
-    ) -> Result<Option<(usize, SectionHeader)>> {
+    pub fn section_by_name(&self, name: impl AsRef<[u8]>, first: usize) -> Result<Option<(usize, SectionHeader)>> {
         let names = self.shdr_strtab()?.range;
         let found = sys::goblin_section_by_name(&self.file, &self.header, &names, name.as_ref(), first as u64)?;
         Ok(found.map(|(index, section)| (index as usize, section)))
@@ -228,15 +220,13 @@ impl<'a> Elf<'a> {
     /// start at the end of the file or past it. Returns `None` only where those calls do.
     ///
     /// ```
-    /// # fn main() -> Result<(), Box<dyn std::error::Error>> {
     /// # let bytes = std::fs::read(std::env::current_exe()?)?;
     /// let text = goblin_rs::Elf::parse(&bytes)?.section(".text")?.ok_or("no .text")?;
     /// // the file ends after 16 bytes of the section
     /// let cut = goblin_rs::Elf::parse(&bytes[..text.sh_offset as usize + 16])?;
     /// assert!(cut.section_data(&text).is_err());
     /// assert_eq!(cut.readable_data(&text).map(|data| data.len()), Some(16));
-    /// # Ok(())
-    /// # }
+    /// # Ok::<(), Box<dyn std::error::Error>>(())
     /// ```
     pub fn readable_data(&self, part: &impl Part) -> Option<&'a [u8]> {
         let found = part.found(self.file);
@@ -254,13 +244,21 @@ impl<'a> Elf<'a> {
     }
 
     /// Returns the sections of a segment, in the sense of [`ProgramHeader::holds`]. The section header at index 0,
-    /// which means no section, is left out. Each call reads all section headers. For many segments collect these once,
-    /// and call `holds` of each segment.
+    /// which means no section, is left out. Each call reads all section headers: for many segments use
+    /// [`Elf::section_map`].
     ///
     /// # Errors
     /// If the section headers are not inside the file.
     pub fn segment_sections(&self, segment: &ProgramHeader) -> Result<SegmentSections<'a>> {
         Ok(SegmentSections::of(*segment, self.section_headers()?))
+    }
+
+    /// Returns a map of the sections, for those of many segments.
+    ///
+    /// # Errors
+    /// If the section headers are not inside the file.
+    pub fn section_map(&self) -> Result<SectionMap> {
+        Ok(SectionMap::of(self.section_headers()?.iter().skip(1).collect()))
     }
 
     /// Returns the number in `width` bytes at an offset of the file, in the file's byte order. Returns `None` if the
@@ -277,14 +275,12 @@ impl<'a> Elf<'a> {
     /// 1, 2, 4 or 8.
     ///
     /// ```
-    /// # fn main() -> Result<(), Box<dyn std::error::Error>> {
     /// # let bytes = std::fs::read(std::env::current_exe()?)?;
     /// let elf = goblin_rs::Elf::parse(&bytes)?;
     /// let text = elf.section(".text")?.ok_or("no .text")?;
     /// assert_eq!(elf.number_in(&text, 2, 4)?, elf.number(text.sh_offset + 2, 4)?);
     /// assert!(elf.number_in(&text, text.sh_size - 3, 4).is_err());
-    /// # Ok(())
-    /// # }
+    /// # Ok::<(), Box<dyn std::error::Error>>(())
     /// ```
     ///
     /// # Errors
@@ -299,13 +295,11 @@ impl<'a> Elf<'a> {
     /// `p_vaddr <= address < p_vaddr + p_filesz`.
     ///
     /// ```
-    /// # fn main() -> Result<(), Box<dyn std::error::Error>> {
     /// # let bytes = std::fs::read(std::env::current_exe()?)?;
     /// let elf = goblin_rs::Elf::parse(&bytes)?;
     /// let text = elf.section(".text")?.ok_or("no .text")?;
     /// assert_eq!(elf.address_to_offset(text.sh_addr)?, Some(text.sh_offset));
-    /// # Ok(())
-    /// # }
+    /// # Ok::<(), Box<dyn std::error::Error>>(())
     /// ```
     ///
     /// # Errors
@@ -367,7 +361,7 @@ impl<'a> Elf<'a> {
     /// If the section has another type, or the section headers or the symbols are not inside the file.
     pub fn symtab(&self, section: &SectionHeader) -> Result<Symtab<'a>> {
         if ![SHT_SYMTAB, SHT_DYNSYM].contains(&section.sh_type) {
-            return Err(Error::section_type(section, SYMBOLS));
+            return Err(Error::section_type(section, ITEM_SYMBOLS));
         }
         let names = self.linked_section(section)?.unwrap_or_default();
         Symtab::of(self, section.range(), self.strtab(&names))
@@ -401,7 +395,7 @@ impl<'a> Elf<'a> {
     /// If the section has another type, or the relocations are not inside the file.
     pub fn relocs(&self, section: &SectionHeader) -> Result<RelocSection<'a>> {
         if !holds_relocs(section) {
-            return Err(Error::section_type(section, RELOCATIONS));
+            return Err(Error::section_type(section, ITEM_RELOCATIONS));
         }
         RelocSection::of(self, section.range(), section.sh_type == SHT_RELA)
     }
@@ -409,10 +403,20 @@ impl<'a> Elf<'a> {
     /// Returns all relocation sections, each with the index of its section. If one is damaged, [`Elf::relocs`] reads
     /// the others.
     ///
+    /// ```
+    /// # let bytes = std::fs::read(std::env::current_exe()?)?;
+    /// let elf = goblin_rs::Elf::parse(&bytes)?;
+    /// for (index, relocs) in elf.shdr_relocs()? {
+    ///     println!("section {index}: {} relocations", relocs.len());
+    /// }
+    /// # Ok::<(), Box<dyn std::error::Error>>(())
+    /// ```
+    ///
     /// # Errors
     /// If the section headers or the relocations of any section are not inside the file.
-    pub fn shdr_relocs(&self) -> Result<RelocSections<'a>> {
-        RelocSections::of(*self)
+    pub fn shdr_relocs(&self) -> Result<Vec<(usize, RelocSection<'a>)>> {
+        let sections = self.section_headers()?.iter().enumerate().filter(|(_, section)| holds_relocs(section));
+        sections.map(|(index, section)| Ok((index, self.relocs(&section)?))).collect()
     }
 
     /// Returns the notes of a section or a segment. If one is damaged, [`Elf::readable_notes`] returns those before it.
@@ -434,15 +438,13 @@ impl<'a> Elf<'a> {
     /// the section or the segment. If one is damaged, [`Elf::readable_notes_bytes`] returns those before it.
     ///
     /// ```
-    /// # fn main() -> Result<(), Box<dyn std::error::Error>> {
     /// # let bytes = std::fs::read(std::env::current_exe()?)?;
     /// let elf = goblin_rs::Elf::parse(&bytes)?;
     /// if let Some(section) = elf.section(".note.gnu.build-id")? {
     ///     let notes = elf.notes_bytes(&section)?;
     ///     assert!(notes.iter().all(|note| note.name == b"GNU\0"));
     /// }
-    /// # Ok(())
-    /// # }
+    /// # Ok::<(), Box<dyn std::error::Error>>(())
     /// ```
     ///
     /// # Errors
@@ -481,13 +483,11 @@ impl<'a> Elf<'a> {
     /// 65,536 of their notes, these sections and their notes.
     ///
     /// ```
-    /// # fn main() -> Result<(), Box<dyn std::error::Error>> {
     /// # let bytes = std::fs::read(std::env::current_exe()?)?;
     /// let elf = goblin_rs::Elf::parse(&bytes)?;
     /// let hex: String = elf.build_id()?.unwrap_or(&[]).iter().map(|byte| format!("{byte:02x}")).collect();
     /// # assert!(hex.len() < 129);
-    /// # Ok(())
-    /// # }
+    /// # Ok::<(), Box<dyn std::error::Error>>(())
     /// ```
     ///
     /// # Errors

@@ -1,15 +1,28 @@
 //! The header of a file, its constants, and the names of its numbers.
-pub use crate::constants::header::*;
-use crate::constants::names::{CLASS, ET, MACHINE};
-use crate::error::{Error, Result, RELOCATIONS, SYMBOLS};
+pub use crate::generated::header::*;
+use crate::generated::names::{CLASS, ET, MACHINE};
+use crate::generated::{INTEGER_FIT, ITEM_ADDEND, ITEM_RELOCATIONS, ITEM_SYMBOLS, NO_ITEM, NUMBER_WIDTH};
+use crate::error::{Error, Result};
 use crate::names::name_of;
-use crate::part::Part;
+use crate::part::{Part, Ranged};
 use crate::program_header::ProgramHeader;
-pub use crate::raw::Header;
 use crate::reloc::{holds_relocs, Reloc};
 use crate::section_header::{section_header32, section_header64, SectionHeader, SHT_DYNSYM, SHT_RELA, SHT_SYMTAB};
 use crate::sym::{sym32, sym64, Sym};
 use crate::sys;
+
+/// A file's header.
+///
+/// ```
+/// use goblin_rs::header::{machine_to_str, EM_X86_64, ET_DYN};
+///
+/// # let bytes = std::fs::read(std::env::current_exe()?)?;
+/// let header = goblin_rs::Elf::parse(&bytes)?.header;
+/// let is_for_this = header.e_machine == EM_X86_64 && header.e_type == ET_DYN;
+/// println!("{}: {}", machine_to_str(header.e_machine), is_for_this);
+/// # Ok::<(), Box<dyn std::error::Error>>(())
+/// ```
+pub use crate::raw::Header;
 
 impl Header {
     /// Reports whether the file is of the 64-bit class. Any class but 2 counts as the 32-bit class.
@@ -34,7 +47,6 @@ impl Header {
 /// use goblin_rs::section_header::SHF_WRITE;
 /// use goblin_rs::Elf;
 ///
-/// # fn main() -> Result<(), Box<dyn std::error::Error>> {
 /// # let mut bytes = std::fs::read(std::env::current_exe()?)?;
 /// let elf = Elf::parse(&bytes)?;
 /// let (header, found) = (elf.header, elf.section_by_name(".text", 0)?);
@@ -42,8 +54,7 @@ impl Header {
 /// section.sh_flags |= SHF_WRITE;
 /// header.put_section_header(&mut bytes, index, &section)?;
 /// assert_eq!(Elf::parse(&bytes)?.section_header(index)?, Some(section));
-/// # Ok(())
-/// # }
+/// # Ok::<(), Box<dyn std::error::Error>>(())
 /// ```
 impl Header {
     /// Writes this header at the start of a file's bytes, in the class and byte order that it names. Writes the magic
@@ -85,7 +96,7 @@ impl Header {
     /// If there is none, if the program headers are not inside the bytes, or if a number does not fit the class.
     pub fn put_program_header(&self, bytes: &mut [u8], index: usize, segment: &ProgramHeader) -> Result<()> {
         let written = sys::goblin_put_segment(bytes, self, index as u64, segment)?;
-        written.then_some(()).ok_or_else(|| Error::no_item(index, self.e_phoff))
+        written.then_some(()).ok_or_else(|| Error::own(NO_ITEM, index as u64, self.e_phoff))
     }
 
     /// Writes the symbol at an index of a section of type `SHT_SYMTAB` or `SHT_DYNSYM`.
@@ -95,7 +106,7 @@ impl Header {
     /// number does not fit the class.
     pub fn put_symbol(&self, bytes: &mut [u8], section: &SectionHeader, index: usize, symbol: &Sym) -> Result<()> {
         if ![SHT_SYMTAB, SHT_DYNSYM].contains(&section.sh_type) {
-            return Err(Error::section_type(section, SYMBOLS));
+            return Err(Error::section_type(section, ITEM_SYMBOLS));
         }
         let range = section.range();
         is_there(index, section.sh_offset, || sys::goblin_symbol(bytes, self, &range, index as u64))?;
@@ -113,7 +124,7 @@ impl Header {
     /// reverse.
     pub fn put_reloc(&self, bytes: &mut [u8], section: &SectionHeader, index: usize, reloc: &Reloc) -> Result<()> {
         if !holds_relocs(section) {
-            return Err(Error::section_type(section, RELOCATIONS));
+            return Err(Error::section_type(section, ITEM_RELOCATIONS));
         }
         let (range, is_rela, word) = (section.range(), section.sh_type == SHT_RELA, self.size_of(4, 8));
         is_there(index, section.sh_offset, || sys::goblin_reloc(bytes, self, &range, is_rela, index as u64))?;
@@ -121,7 +132,7 @@ impl Header {
         self.refuse_cut(bytes, record, &[(word, 4, reloc.r_sym)])?;
         // (the library refuses an addend of a section without addends, unless it is 0)
         if reloc.r_addend.is_some() != is_rela && reloc.r_addend.unwrap_or(0) == 0 {
-            return Err(Error::addend(record + 2 * word));
+            return Err(Error::own(INTEGER_FIT, 0, record + 2 * word).about(ITEM_ADDEND));
         }
         sys::goblin_put_reloc(bytes, self, &range, is_rela, index as u64, &reloc.cut()).map(|_| ())
     }
@@ -133,7 +144,7 @@ impl Header {
     /// fit.
     pub fn put_number(&self, bytes: &mut [u8], offset: u64, width: usize, value: u64) -> Result<()> {
         let written = sys::goblin_put_number(bytes, self, offset, width as u64, value)?;
-        written.then_some(()).ok_or_else(|| Error::number_width(width, offset))
+        written.then_some(()).ok_or_else(|| Error::own(NUMBER_WIDTH, width as u64, offset))
     }
 
     /// Writes a number of `width` bytes at an offset of a section or of a segment's bytes in the file, as
@@ -152,14 +163,14 @@ impl Header {
     ) -> Result<()> {
         let range = part.range();
         let written = sys::goblin_put_number_in(bytes, self, &range, offset, width as u64, value)?;
-        written.then_some(()).ok_or_else(|| Error::number_width(width, range.offset.saturating_add(offset)))
+        written.then_some(()).ok_or_else(|| Error::own(NUMBER_WIDTH, width as u64, range.offset.saturating_add(offset)))
     }
 }
 
 // Fails unless the list at an offset has an item, which is read.
 fn is_there<T>(index: usize, list: u64, read: impl FnOnce() -> Result<Option<T>>) -> Result<()> {
     sys::check_interface();
-    read()?.map(|_| ()).ok_or_else(|| Error::no_item(index, list))
+    read()?.map(|_| ()).ok_or_else(|| Error::own(NO_ITEM, index as u64, list))
 }
 
 /// Returns the name of a class, [`Header::ei_class`]: `ELF32`, `ELF64`, `NONE` or `UNKNOWN_CLASS`.

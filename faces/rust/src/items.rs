@@ -4,7 +4,6 @@
 //! values: no iterator adaptor can drop an error.
 //!
 //! ```
-//! # fn main() -> Result<(), Box<dyn std::error::Error>> {
 //! # let bytes = std::fs::read(std::env::current_exe()?)?;
 //! let elf = goblin_rs::Elf::parse(&bytes)?;
 //! let sections = elf.section_headers()?;
@@ -12,8 +11,7 @@
 //! // half of the file has no section headers, so there is no list
 //! let cut = goblin_rs::Elf::parse(&bytes[..bytes.len() / 2])?;
 //! assert!(cut.section_headers().is_err());
-//! # Ok(())
-//! # }
+//! # Ok::<(), Box<dyn std::error::Error>>(())
 //! ```
 use crate::error::{Error, Result};
 use core::iter::FusedIterator;
@@ -32,13 +30,11 @@ const BACK: u64 = 16;
 /// fn each_second<L: List>(items: Items<L>) -> Vec<L::Item> {
 ///     items.step_by(2).collect()
 /// }
-/// # fn main() -> Result<(), Box<dyn std::error::Error>> {
 /// # let bytes = std::fs::read(std::env::current_exe()?)?;
 /// let elf = goblin_rs::Elf::parse(&bytes)?;
 /// let segments = elf.program_headers()?;
 /// assert_eq!(each_second(segments.iter()).len(), (segments.len() + 1) / 2);
-/// # Ok(())
-/// # }
+/// # Ok::<(), Box<dyn std::error::Error>>(())
 /// ```
 ///
 /// ```compile_fail
@@ -47,12 +43,6 @@ const BACK: u64 = 16;
 /// struct Mine;
 /// impl List for Mine {
 ///     type Item = u8;
-/// #     type Raw = u8;
-/// #     type Batch = [u8; 32];
-/// #     fn batch() -> [u8; 32] { [0; 32] }
-/// #     fn count(&self) -> u64 { 0 }
-/// #     fn read(&self, _: u64) -> goblin_rs::Result<Option<u8>> { Ok(None) }
-/// #     fn fill(&self, _: u64, _: &mut [u8]) -> goblin_rs::Result<Option<u64>> { Ok(None) }
 /// }
 /// ```
 pub trait List: Copy + Batches<<Self as List>::Item> {
@@ -64,7 +54,8 @@ pub trait List: Copy + Batches<<Self as List>::Item> {
 mod sealed {
     use crate::error::Result;
 
-    pub trait Batches<Item> {
+    /// What the macro `table` says of a list.
+    pub trait Table {
         /// An item as the library writes it.
         type Raw: Copy;
         /// An array of some items.
@@ -75,7 +66,9 @@ mod sealed {
 
         /// Returns the number of items, which was read when the list was made.
         fn count(&self) -> u64;
+    }
 
+    pub trait Batches<Item>: Table {
         /// Returns the item that the library wrote.
         fn item(&self, raw: Self::Raw) -> Item;
 
@@ -86,7 +79,7 @@ mod sealed {
         fn fill(&self, first: u64, items: &mut [Self::Raw]) -> Result<Option<u64>>;
     }
 }
-pub(crate) use sealed::Batches;
+pub(crate) use sealed::{Batches, Table};
 
 /// Returns what the library read of a list that was made. This is no error: by its contracts the library refuses a list
 /// at every index or at none, and the bytes have not changed.
@@ -153,10 +146,27 @@ macro_rules! list {
     };
 }
 
-// The methods of a list whose items have indices.
+// The methods of a list whose items have indices. The library writes so many of them at a time.
 macro_rules! table {
-    ($list:ident of $item:ty, $one:literal, $more:literal) => {
+    ($list:ident of $item:ty, $one:literal, $more:literal, [$raw:ty; $len:literal]) => {
         $crate::items::list!($list of $item, by $crate::items::Items<$list<'a>>, $one, $more);
+
+        impl $crate::items::List for $list<'_> {
+            type Item = $item;
+        }
+
+        impl $crate::items::Table for $list<'_> {
+            type Raw = $raw;
+            type Batch = [$raw; $len];
+
+            fn batch() -> Self::Batch {
+                [Default::default(); $len]
+            }
+
+            fn count(&self) -> u64 {
+                self.count
+            }
+        }
 
         impl $list<'_> {
             #[doc = concat!("Returns the ", $one, " at an index, or `None` past the end.")]
@@ -182,15 +192,13 @@ pub(crate) use {list, table};
 /// An iterator over the items of a list, from both ends. It reads several items at a time.
 ///
 /// ```
-/// # fn main() -> Result<(), Box<dyn std::error::Error>> {
 /// # let bytes = std::fs::read(std::env::current_exe()?)?;
 /// let elf = goblin_rs::Elf::parse(&bytes)?;
 /// let mut sections = elf.section_headers()?.iter();
 /// let (first, left) = (sections.next(), sections.len());
 /// assert_eq!(first, elf.section_header(0)?);
 /// assert_eq!(sections.next_back(), elf.section_header(left)?);
-/// # Ok(())
-/// # }
+/// # Ok::<(), Box<dyn std::error::Error>>(())
 /// ```
 #[derive(Clone)]
 #[must_use = "iterators are lazy and do nothing unless consumed"]
@@ -228,11 +236,7 @@ impl<L: List> Items<L> {
         let in_batch = start..start + (indices.end - indices.start);
         let items = &mut self.batch.as_mut()[in_batch.start as usize..in_batch.end as usize];
         let filled = made(self.list.fill(indices.start, items));
-        assert_eq!(
-            filled,
-            Some(items.len() as u64),
-            "the library must fill an array that the list has enough items for"
-        );
+        assert_eq!(filled, Some(items.len() as u64), "the list has enough items for the array");
         in_batch
     }
 

@@ -5,15 +5,13 @@
 //! of goblin's fields and calls.
 //!
 //! ```
-//! # fn main() -> Result<(), Box<dyn std::error::Error>> {
 //! # let path = std::env::current_exe()?;
 //! let bytes = std::fs::read(path)?;
 //! let elf = goblin_rs::Elf::parse(&bytes)?;
 //! for section in elf.section_headers()? {
 //!     println!("{:#x} {}", section.sh_offset, elf.section_name(&section)?.unwrap_or(""));
 //! }
-//! # Ok(())
-//! # }
+//! # Ok::<(), Box<dyn std::error::Error>>(())
 //! ```
 //!
 //! # Lists
@@ -27,6 +25,10 @@
 //! the headers that are whole inside it: its lists of headers, and searches in them, never fail for the list. The calls
 //! whose names begin with `readable_` never fail: they return what is left of notes, or of the bytes of a section or a
 //! segment. The example `truncated` shows them.
+//!
+//! A separate debug file, as `objcopy --only-keep-debug` makes it, has the header of the dynamic section, but not its
+//! bytes. If the header still has its size, the calls that read it fail: [`Elf::dynamic`], [`Elf::dynsyms`],
+//! [`Elf::libraries`] and its like. [`Elf::section`], [`Elf::syms`] and [`Elf::build_id`] read such a file.
 //!
 //! # Notes
 //! [`Elf::iter_note_headers`] returns the notes of segments: those that are loaded, and all of a core file. Others are
@@ -51,9 +53,11 @@
 //!
 //! # Platforms
 //! The library is made for Linux (and Android) on x86-64 and AArch64, and this crate needs a host of 64 bits. The files
-//! that it reads may be of any machine. It needs Rust 1.63. Without the feature `std`, which is on by default, it needs
-//! only `core` and `alloc`: [`Error`] is then no error of std, and [`strtab::Strtab::get_c_str`] is missing. All types
-//! may be shared and sent between threads, since the library has no state.
+//! that it reads may be of any machine. It needs Rust 1.63. There is no public repository yet, and no registry that has
+//! it: `make dist` of its sources makes the crate. Without the feature `std`, which is on by default, it needs
+//! only `core` and `alloc`: [`Error`] is then no error of std, and [`strtab::Strtab::get_c_str`] is missing, which
+//! [`strtab::Strtab::get_closed_bytes`] stands for. All types may be shared and sent between threads, since the library
+//! has no state.
 //!
 //! # Coming from goblin
 //! Here each part of the file is read on demand, which can fail, so most of goblin's fields are calls that return a
@@ -61,7 +65,12 @@
 //!
 //! The symbols of `dynsyms` are those of the section of type `SHT_DYNSYM`. goblin counts those at `DT_SYMTAB` by
 //! `DT_GNU_HASH`, or else by `DT_HASH`, and at least up to the highest index in a relocation. Without such a section
-//! they are refused here. A name of the dynamic section that can't be read is an error; goblin leaves it out.
+//! they are refused here, so a program that goes on without them writes `elf.dynsyms().ok().flatten()`. A name of the
+//! dynamic section that can't be read is an error; goblin leaves it out.
+//!
+//! goblin has no searches. Here [`Elf::section`], [`Elf::section_by_name`] and [`Elf::section_by_type`] find a section,
+//! and the calls of [`sym::Symtab`] that begin with `symbol_by_` a symbol, by its name or an address.
+//! [`Elf::linked_section`] is the section that `sh_link` names, and [`Elf::address_to_offset`] finds a loaded byte.
 //!
 //! |field of goblin's `Elf`|here|
 //! |---|---|
@@ -96,7 +105,6 @@
 //! These lines, the comments, work with goblin, each before what to write instead:
 //!
 //! ```
-//! # fn main() -> Result<(), Box<dyn std::error::Error>> {
 //! # let path = std::env::current_exe()?;
 //! # let bytes = std::fs::read(path)?;
 //! use goblin_rs::note::NoteBytes;
@@ -155,8 +163,7 @@
 //!     Err(Kind::BadMagic(magic)) => assert_eq!(magic.to_le_bytes(), *b"no file "),
 //!     other => panic!("{other:?}"),
 //! }
-//! # Ok(())
-//! # }
+//! # Ok::<(), Box<dyn std::error::Error>>(())
 //! ```
 #![no_std]
 #![deny(missing_docs, unsafe_code)]
@@ -166,11 +173,12 @@ extern crate alloc;
 extern crate std;
 
 mod address_map;
-mod constants;
 pub mod dynamic;
 pub mod elf;
 pub mod error;
 mod file;
+#[rustfmt::skip]
+mod generated;
 pub mod header;
 pub mod items;
 mod names;
@@ -180,13 +188,13 @@ pub mod program_header;
 mod raw;
 pub mod reloc;
 pub mod section_header;
+mod section_map;
 pub mod strtab;
 pub mod sym;
 #[allow(unsafe_code)]
-#[cfg_attr(not(feature = "std"), allow(dead_code))]
 mod sys;
 
-pub use constants::other;
 pub use elf::Elf;
 pub use error::{Error, Kind, Result};
+pub use generated::other;
 pub use part::Part;

@@ -1,4 +1,4 @@
-//! The names of numbers, by the tables that `faces/constants.py` makes of the library's.
+//! The names of numbers, by the tables that are generated of the library's.
 
 /// Returns the name of a number by a table whose lines have the names of their numbers and of those up to the next one.
 pub fn name_of(table: &[(u32, &'static str)], number: u32) -> &'static str {
@@ -9,12 +9,46 @@ pub fn name_of(table: &[(u32, &'static str)], number: u32) -> &'static str {
 
 #[cfg(test)]
 mod tests {
+    use crate::generated::ALL;
     use crate::header::{class_to_str, et_to_str, machine_to_str};
     use crate::note::Note;
     use crate::program_header::pt_to_str;
     use crate::section_header::{shf_to_str, sht_to_str};
     use crate::sym::{bind_to_str, type_to_str, visibility_to_str};
     use crate::sys;
+    use std::collections::HashMap;
+    use std::path::Path;
+    use std::prelude::v1::*;
+    use std::{format, fs};
+
+    // Returns the lines of a table of the repository, if this crate is there, each as two words.
+    fn table(path: &str) -> Vec<(String, String)> {
+        let crates = Path::new(env!("CARGO_MANIFEST_DIR")).join("../..");
+        if !crates.join("faces/constants.py").exists() {
+            return Vec::new();
+        }
+        let pair = |line: &str| line.split_once(' ').map(|(one, other)| (one.to_string(), other.to_string()));
+        fs::read_to_string(crates.join(path)).unwrap().lines().filter_map(pair).collect()
+    }
+
+    #[test]
+    fn constants_are_the_library_s_and_the_standard_s() {
+        let all = ALL.iter().map(|(path, value)| (path.to_string(), format!("{value:?}")));
+        let mut ours: HashMap<_, _> = all.collect();
+        assert_eq!(ours.len(), ALL.len());
+        // (glibc's elf.h has these names, too, and these numbers)
+        for (name, number) in table("checks/files/elf_constants") {
+            let number = u64::from_str_radix(number.trim_start_matches("0x"), 16).unwrap().to_string();
+            let named = ours.iter().filter(|(path, _)| path.rsplit("::").next() == Some(&name));
+            assert!(named.map(|(_, value)| value).eq([&number]), "{name} is {number}");
+        }
+        for (path, value) in table("crates/goblin_names/stdout").into_iter().filter(|(path, _)| path.contains("::")) {
+            let path = path.replace("tags::", "dynamic::").replace("entry::", "dynamic::");
+            let path = path.replace("whole_part::", "program_header::");
+            assert_eq!(ours.remove(&path), Some(value), "{path}");
+        }
+        assert!(table("crates/goblin_names/stdout").is_empty() || ours.keys().all(|path| path.starts_with("other::")));
+    }
 
     // Asserts that a name is the text that the library writes.
     fn is_written(name: &str, write: impl Fn(&mut [u8]) -> usize) {

@@ -1,14 +1,14 @@
 //! Notes, their constants, and the names of their types.
-use crate::constants::names::{NOTE_TYPE_CORE, NOTE_TYPE_GNU};
-pub use crate::constants::note::*;
+use crate::generated::names::{NOTE_TYPE_CORE, NOTE_TYPE_GNU};
+pub use crate::generated::note::*;
 use crate::elf::Elf;
 use crate::error::{Error, Result};
 use crate::file::File;
 use crate::items::{list, made};
 use crate::names::name_of;
 use crate::part::Part;
-use crate::program_header::{ProgramHeaders, PT_NOTE};
-use crate::section_header::{SectionHeaders, SHT_NOTE};
+use crate::program_header::PT_NOTE;
+use crate::section_header::SHT_NOTE;
 use crate::{raw, sys};
 use core::iter::FusedIterator;
 use core::marker::PhantomData;
@@ -91,15 +91,13 @@ impl<'a> NoteBytes<'a> {
 /// fn last<'a, N: AnyNote<'a>>(notes: Notes<'a, N>) -> Option<N> {
 ///     notes.iter().last()
 /// }
-/// # fn main() -> Result<(), Box<dyn std::error::Error>> {
 /// # let bytes = std::fs::read(std::env::current_exe()?)?;
 /// let elf = goblin_rs::Elf::parse(&bytes)?;
 /// if let Some(section) = elf.section(".note.gnu.build-id")? {
 ///     let (note, as_bytes) = (last(elf.notes(&section)?), last(elf.notes_bytes(&section)?));
 ///     assert_eq!(note.map(|note| note.desc), as_bytes.map(|note| note.desc));
 /// }
-/// # Ok(())
-/// # }
+/// # Ok::<(), Box<dyn std::error::Error>>(())
 /// ```
 pub trait AnyNote<'a>: Copy + sealed::AnyNote<'a> {}
 
@@ -129,7 +127,8 @@ impl<'a> sealed::AnyNote<'a> for Note<'a> {
     }
 
     fn new(file: File<'a>, note: raw::Note) -> Self {
-        Note { n_type: note.n_type, name: file.text(note.name), desc: file.slice(note.desc) }
+        let (name, desc) = ranges(&note);
+        Note { n_type: note.n_type, name: file.text(name), desc: file.slice(desc) }
     }
 }
 
@@ -141,7 +140,7 @@ impl<'a> sealed::AnyNote<'a> for NoteBytes<'a> {
             None => return Ok(None),
         };
         // (the last byte of the name, if it has one, is not in the range, and the note begins with the name's size)
-        note.name.size = match note.name.size {
+        note.name_size = match note.name_size {
             0 => sys::goblin_number(&notes.file, &notes.header, offset, 4)?.unwrap_or(0),
             size => size + 1,
         };
@@ -149,14 +148,20 @@ impl<'a> sealed::AnyNote<'a> for NoteBytes<'a> {
     }
 
     fn new(file: File<'a>, note: raw::Note) -> Self {
-        NoteBytes { n_type: note.n_type, name: file.slice(note.name), desc: file.slice(note.desc) }
+        let (name, desc) = ranges(&note);
+        NoteBytes { n_type: note.n_type, name: file.slice(name), desc: file.slice(desc) }
     }
+}
+
+// Returns the ranges of a note's name and of its descriptor.
+fn ranges(note: &raw::Note) -> (raw::Range, raw::Range) {
+    let raw::Note { name_offset, name_size, desc_offset, desc_size, .. } = *note;
+    (raw::Range { offset: name_offset, size: name_size }, raw::Range { offset: desc_offset, size: desc_size })
 }
 
 /// The notes of a section or a segment.
 ///
 /// ```
-/// # fn main() -> Result<(), Box<dyn std::error::Error>> {
 /// # let bytes = std::fs::read(std::env::current_exe()?)?;
 /// let elf = goblin_rs::Elf::parse(&bytes)?;
 /// use goblin_rs::note::NT_GNU_BUILD_ID;
@@ -165,8 +170,7 @@ impl<'a> sealed::AnyNote<'a> for NoteBytes<'a> {
 ///     let build_id = elf.notes(&section)?.iter().find(|note| note.n_type == NT_GNU_BUILD_ID);
 ///     assert!(build_id.map_or(false, |note| !note.desc.is_empty()));
 /// }
-/// # Ok(())
-/// # }
+/// # Ok::<(), Box<dyn std::error::Error>>(())
 /// ```
 #[derive(Clone, Copy, Debug)]
 pub struct Notes<'a, N = Note<'a>> {
@@ -205,15 +209,13 @@ list!(Notes<N: AnyNote> of N, by NoteDataIterator<'a, N>, "note", "notes");
 /// An iterator over the notes of a section or a segment.
 ///
 /// ```
-/// # fn main() -> Result<(), Box<dyn std::error::Error>> {
 /// # let bytes = std::fs::read(std::env::current_exe()?)?;
 /// let elf = goblin_rs::Elf::parse(&bytes)?;
 /// let section = elf.section(".note.gnu.build-id")?.unwrap_or_default();
 /// let mut notes = elf.notes(&section)?.iter();
 /// let left = notes.len();
 /// assert_eq!(notes.next().is_some(), left > 0);
-/// # Ok(())
-/// # }
+/// # Ok::<(), Box<dyn std::error::Error>>(())
 /// ```
 #[derive(Clone, Debug)]
 #[must_use = "iterators are lazy and do nothing unless consumed"]
@@ -249,30 +251,24 @@ impl<'a, N: AnyNote<'a>> ExactSizeIterator for NoteDataIterator<'a, N> {}
 
 impl<'a, N: AnyNote<'a>> FusedIterator for NoteDataIterator<'a, N> {}
 
-// The headers of what holds notes.
-#[derive(Clone, Copy, Debug)]
-enum Holders<'a> {
-    Segments(ProgramHeaders<'a>),
-    Sections(SectionHeaders<'a>),
-}
+// Returns the notes of the segment or the section at an index, if there is one, and if it is of notes.
+type Holder<'a> = fn(Elf<'a>, usize) -> Option<Option<Result<Notes<'a, NoteBytes<'a>>>>>;
 
 /// An iterator over the notes of all segments of type `PT_NOTE`, or of all sections of type `SHT_NOTE`.
 ///
 /// ```
-/// # fn main() -> Result<(), Box<dyn std::error::Error>> {
 /// # let bytes = std::fs::read(std::env::current_exe()?)?;
 /// let elf = goblin_rs::Elf::parse(&bytes)?;
 /// for note in elf.iter_note_headers()? {
 ///     println!("{:?} {}: {} bytes", note.text(), note.type_to_str(), note.desc.len());
 /// }
-/// # Ok(())
-/// # }
+/// # Ok::<(), Box<dyn std::error::Error>>(())
 /// ```
 #[derive(Clone, Debug)]
 #[must_use = "iterators are lazy and do nothing unless consumed"]
 pub struct NoteIterator<'a> {
     elf: Elf<'a>,
-    holders: Holders<'a>,
+    holder: Holder<'a>,
     // The index of the next header.
     next: usize,
     // The notes of the last segment or section of notes before it.
@@ -282,15 +278,21 @@ pub struct NoteIterator<'a> {
 
 impl<'a> NoteIterator<'a> {
     pub(crate) fn of_segments(elf: Elf<'a>) -> Result<Self> {
-        Self::of(elf, Holders::Segments(elf.program_headers()?))
+        elf.program_headers()?;
+        Self::of(elf, |elf, index| {
+            made(elf.program_header(index)).map(|h| (h.p_type == PT_NOTE).then(|| elf.notes_bytes(&h)))
+        })
     }
 
     pub(crate) fn of_sections(elf: Elf<'a>) -> Result<Self> {
-        Self::of(elf, Holders::Sections(elf.section_headers()?))
+        elf.section_headers()?;
+        Self::of(elf, |elf, index| {
+            made(elf.section_header(index)).map(|h| (h.sh_type == SHT_NOTE).then(|| elf.notes_bytes(&h)))
+        })
     }
 
-    fn of(elf: Elf<'a>, holders: Holders<'a>) -> Result<Self> {
-        let mut all = NoteIterator { elf, holders, next: 0, notes: None, left: 0 };
+    fn of(elf: Elf<'a>, holder: Holder<'a>) -> Result<Self> {
+        let mut all = NoteIterator { elf, holder, next: 0, notes: None, left: 0 };
         let mut counted = all.clone();
         while let Some(notes) = counted.next_notes() {
             all.left += notes?.len();
@@ -301,11 +303,7 @@ impl<'a> NoteIterator<'a> {
     // Returns the notes of the next segment or section of notes.
     fn next_notes(&mut self) -> Option<Result<Notes<'a, NoteBytes<'a>>>> {
         loop {
-            let (elf, index) = (&self.elf, self.next);
-            let notes = match &self.holders {
-                Holders::Segments(all) => all.get(index).map(|h| (h.p_type == PT_NOTE).then(|| elf.notes_bytes(&h))),
-                Holders::Sections(all) => all.get(index).map(|h| (h.sh_type == SHT_NOTE).then(|| elf.notes_bytes(&h))),
-            }?;
+            let notes = (self.holder)(self.elf, self.next)?;
             self.next += 1;
             if notes.is_some() {
                 return notes;

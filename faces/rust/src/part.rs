@@ -3,14 +3,13 @@ use crate::error::Result;
 use crate::file::File;
 use crate::program_header::ProgramHeader;
 use crate::raw::Range;
-use crate::section_header::SectionHeader;
+use crate::section_header::{SectionHeader, SHT_NOBITS};
 use crate::sys;
 
 /// What has bytes in a file: a [`SectionHeader`] or a [`ProgramHeader`]. Calls that take either take a reference to
 /// this. Only these two have it.
 ///
 /// ```
-/// # fn main() -> Result<(), Box<dyn std::error::Error>> {
 /// # let bytes = std::fs::read(std::env::current_exe()?)?;
 /// use goblin_rs::{Elf, Part};
 ///
@@ -21,8 +20,7 @@ use crate::sys;
 /// let elf = Elf::parse(&bytes)?;
 /// let text = elf.section(".text")?.ok_or("no .text")?;
 /// assert_eq!(first_word(&elf, &text)?, elf.number(text.sh_offset, 4)?);
-/// # Ok(())
-/// # }
+/// # Ok::<(), Box<dyn std::error::Error>>(())
 /// ```
 pub trait Part: sealed::Part {}
 
@@ -44,13 +42,17 @@ mod sealed {
     }
 }
 
+pub(crate) use sealed::Part as Ranged;
+
 impl Part for SectionHeader {}
 
 impl Part for ProgramHeader {}
 
 impl sealed::Part for SectionHeader {
+    // (of `SHT_NOBITS` it is empty, whatever the size)
     fn range(&self) -> Range {
-        SectionHeader::range(self)
+        let range = Range { offset: self.sh_offset, size: self.sh_size };
+        Some(range).filter(|_| self.sh_type != SHT_NOBITS).unwrap_or_default()
     }
 
     fn alignment(&self) -> u64 {
@@ -64,7 +66,7 @@ impl sealed::Part for SectionHeader {
 
 impl sealed::Part for ProgramHeader {
     fn range(&self) -> Range {
-        ProgramHeader::range(self)
+        Range { offset: self.p_offset, size: self.p_filesz }
     }
 
     fn alignment(&self) -> u64 {

@@ -1,15 +1,25 @@
 //! Program headers, their constants, and the names of their numbers.
-use crate::constants::names::PT;
-pub use crate::constants::program_header::*;
+use crate::generated::names::PT;
+pub use crate::generated::program_header::*;
 use crate::elf::Elf;
 use crate::error::Result;
-use crate::items::{table, Batches, Items, List};
+use crate::items::{table, Batches, Items};
 use crate::names::name_of;
-pub use crate::raw::ProgramHeader;
 use crate::section_header::{SectionHeader, SectionHeaderIterator, SectionHeaders, SHF_TLS, SHT_NOBITS};
-use crate::{raw, sys};
+use crate::sys;
 use core::iter::FusedIterator;
 use core::ops::Range;
+
+/// A program header.
+///
+/// ```
+/// use goblin_rs::program_header::{ProgramHeader, PF_R, PF_X, PT_LOAD};
+///
+/// let segment = ProgramHeader { p_type: PT_LOAD, p_flags: PF_R | PF_X, ..ProgramHeader::default() };
+/// assert!(segment.is_executable() && !segment.is_write());
+/// ```
+pub use crate::raw::ProgramHeader;
+pub use crate::section_map::SectionMap;
 
 impl ProgramHeader {
     /// Returns the segment's range in the file, inside the file or not. Its end is at most `u64::MAX`.
@@ -39,20 +49,22 @@ impl ProgramHeader {
     /// This rule is not part of the library. It is tested, and compared with `readelf`, but not proved.
     #[must_use]
     pub fn holds(&self, section: &SectionHeader) -> bool {
-        let has_bytes = section.sh_type != SHT_NOBITS;
-        let first =
-            u64::from(section.sh_size == 0 && self.p_memsz != 0 && [PT_DYNAMIC, PT_NOTE].contains(&self.p_type));
-        let lies_in = |start: u64, from: u64, size: u64| {
-            let before = start.checked_sub(from).filter(|before| *before >= first && (*before < size || size == 0));
-            before.and_then(|before| before.checked_add(section.sh_size)).map_or(false, |end| end <= size)
-        };
-        self.may_hold(section)
-            && (!has_bytes || lies_in(section.sh_offset, self.p_offset, self.p_filesz))
-            && (!section.is_alloc() || lies_in(section.sh_addr, self.p_vaddr, self.p_memsz))
+        self.may_hold(section) && has_bounds(&section.bounds(), &self.least_bounds(section))
     }
 
-    // Reports whether segments of this type hold sections of this kind.
-    fn may_hold(&self, section: &SectionHeader) -> bool {
+    // Returns the least bounds of the sections of a class that the segment holds: their starts and their negative ends,
+    // in the file and in memory.
+    pub(crate) fn least_bounds(&self, section: &SectionHeader) -> [i128; 4] {
+        let is_empty = section.sh_size == 0;
+        let after = is_empty && self.p_memsz != 0 && [PT_DYNAMIC, PT_NOTE].contains(&self.p_type);
+        let starts = [self.p_offset, self.p_vaddr].map(i128::from);
+        let sizes = [self.p_filesz, self.p_memsz].map(|size| i128::from(size) - i128::from(is_empty && size > 0));
+        let first = starts.map(|start| start + i128::from(after));
+        [first[0], -starts[0] - sizes[0], first[1], -starts[1] - sizes[1]]
+    }
+
+    // Reports whether segments of this type hold sections of a class.
+    pub(crate) fn may_hold(&self, section: &SectionHeader) -> bool {
         let is_tls = section.sh_flags & SHF_TLS != 0;
         match self.p_type {
             PT_PHDR => false,
@@ -61,11 +73,6 @@ impl ProgramHeader {
             PT_DYNAMIC | PT_GNU_EH_FRAME | PT_GNU_STACK | 0x6474_e554..=0x6474_f554 => section.is_alloc() && !is_tls,
             _ => !is_tls,
         }
-    }
-
-    /// Returns its range in the file, inside the file or not.
-    pub(crate) fn range(&self) -> raw::Range {
-        raw::Range { offset: self.p_offset, size: self.p_filesz }
     }
 
     /// Reports whether the segment may be executed.
@@ -87,10 +94,14 @@ impl ProgramHeader {
     }
 }
 
+/// Reports whether each bound of a section is at least what a segment asks for.
+pub(crate) fn has_bounds(bounds: &[i128; 4], least: &[i128; 4]) -> bool {
+    bounds.iter().zip(least).all(|(bound, least)| bound >= least)
+}
+
 /// The program headers of a file.
 ///
 /// ```
-/// # fn main() -> Result<(), Box<dyn std::error::Error>> {
 /// # let bytes = std::fs::read(std::env::current_exe()?)?;
 /// let elf = goblin_rs::Elf::parse(&bytes)?;
 /// use goblin_rs::program_header::PT_LOAD;
@@ -98,8 +109,7 @@ impl ProgramHeader {
 /// let loaded: u64 =
 ///     elf.program_headers()?.iter().filter(|segment| segment.p_type == PT_LOAD).map(|segment| segment.p_memsz).sum();
 /// assert!(loaded > 0);
-/// # Ok(())
-/// # }
+/// # Ok::<(), Box<dyn std::error::Error>>(())
 /// ```
 #[derive(Clone, Copy, Debug)]
 pub struct ProgramHeaders<'a> {
@@ -117,24 +127,9 @@ impl<'a> ProgramHeaders<'a> {
     }
 }
 
-table!(ProgramHeaders of ProgramHeader, "program header", "program headers");
-
-impl List for ProgramHeaders<'_> {
-    type Item = ProgramHeader;
-}
+table!(ProgramHeaders of ProgramHeader, "program header", "program headers", [ProgramHeader; 32]);
 
 impl Batches<ProgramHeader> for ProgramHeaders<'_> {
-    type Raw = ProgramHeader;
-    type Batch = [ProgramHeader; 32];
-
-    fn batch() -> Self::Batch {
-        [Default::default(); 32]
-    }
-
-    fn count(&self) -> u64 {
-        self.count
-    }
-
     #[inline]
     fn item(&self, segment: ProgramHeader) -> ProgramHeader {
         segment
@@ -153,7 +148,6 @@ impl Batches<ProgramHeader> for ProgramHeaders<'_> {
 /// An iterator over the sections of a segment, from both ends.
 ///
 /// ```
-/// # fn main() -> Result<(), Box<dyn std::error::Error>> {
 /// # let bytes = std::fs::read(std::env::current_exe()?)?;
 /// use goblin_rs::program_header::{SegmentSections, PT_LOAD};
 ///
@@ -161,8 +155,7 @@ impl Batches<ProgramHeader> for ProgramHeaders<'_> {
 /// let loaded = elf.program_headers()?.iter().find(|segment| segment.p_type == PT_LOAD).ok_or("no segment")?;
 /// let sections: SegmentSections = elf.segment_sections(&loaded)?;
 /// assert!(sections.count() > 0);
-/// # Ok(())
-/// # }
+/// # Ok::<(), Box<dyn std::error::Error>>(())
 /// ```
 #[derive(Clone, Debug)]
 #[must_use = "iterators are lazy and do nothing unless consumed"]

@@ -1,12 +1,11 @@
 //! Relocations.
-pub use crate::constants::reloc::*;
+pub use crate::generated::reloc::*;
 use crate::elf::Elf;
 use crate::error::Result;
 use crate::file::File;
-use crate::items::{list, made, table, Batches, Items, List};
-use crate::section_header::{SectionHeader, SectionHeaderIterator, SectionHeaders, SHT_REL, SHT_RELA};
+use crate::items::{table, Batches, Items};
+use crate::section_header::{SectionHeader, SHT_REL, SHT_RELA};
 use crate::{raw, sys};
-use core::iter::{Enumerate, FusedIterator};
 
 /// A relocation.
 ///
@@ -39,7 +38,6 @@ impl Reloc {
 /// The relocations of a section.
 ///
 /// ```
-/// # fn main() -> Result<(), Box<dyn std::error::Error>> {
 /// # let bytes = std::fs::read(std::env::current_exe()?)?;
 /// let elf = goblin_rs::Elf::parse(&bytes)?;
 /// use goblin_rs::section_header::SHT_RELA;
@@ -48,8 +46,7 @@ impl Reloc {
 ///     let relocs = elf.relocs(&section)?;
 ///     assert!(relocs.iter().all(|reloc| reloc.r_addend.is_some()));
 /// }
-/// # Ok(())
-/// # }
+/// # Ok::<(), Box<dyn std::error::Error>>(())
 /// ```
 #[derive(Clone, Copy, Debug, Default)]
 pub struct RelocSection<'a> {
@@ -67,34 +64,14 @@ impl<'a> RelocSection<'a> {
     pub(crate) fn of(elf: &Elf<'a>, range: raw::Range, is_rela: bool) -> Result<Self> {
         let Elf { file, header } = *elf;
         let count = sys::goblin_reloc_count(&file, &header, &range, is_rela)?;
-        Ok(RelocSection {
-            file,
-            header,
-            range,
-            is_rela,
-            count: count.expect("a section that is not refused has a count"),
-        })
+        let count = count.expect("a section that is not refused has a count");
+        Ok(RelocSection { file, header, range, is_rela, count })
     }
 }
 
-table!(RelocSection of Reloc, "relocation", "relocations");
-
-impl List for RelocSection<'_> {
-    type Item = Reloc;
-}
+table!(RelocSection of Reloc, "relocation", "relocations", [raw::Reloc; 64]);
 
 impl Batches<Reloc> for RelocSection<'_> {
-    type Raw = raw::Reloc;
-    type Batch = [raw::Reloc; 64];
-
-    fn batch() -> Self::Batch {
-        [Default::default(); 64]
-    }
-
-    fn count(&self) -> u64 {
-        self.count
-    }
-
     #[inline]
     fn item(&self, reloc: raw::Reloc) -> Reloc {
         let raw::Reloc { r_offset, r_type, r_sym, r_addend } = reloc;
@@ -112,99 +89,6 @@ impl Batches<Reloc> for RelocSection<'_> {
     }
 }
 
-/// The relocation sections of a file, each with the index of its section. Each is inside the file.
-///
-/// ```
-/// # fn main() -> Result<(), Box<dyn std::error::Error>> {
-/// # let bytes = std::fs::read(std::env::current_exe()?)?;
-/// let elf = goblin_rs::Elf::parse(&bytes)?;
-/// let sections = elf.section_headers()?;
-/// for (index, relocs) in elf.shdr_relocs()? {
-///     let section = sections.get(index).unwrap_or_default();
-///     println!("{}: {} relocations", elf.section_name(&section)?.unwrap_or(""), relocs.len());
-/// }
-/// # Ok(())
-/// # }
-/// ```
-#[derive(Clone, Copy, Debug)]
-pub struct RelocSections<'a> {
-    elf: Elf<'a>,
-    headers: SectionHeaders<'a>,
-    count: usize,
-}
-
-impl<'a> RelocSections<'a> {
-    pub(crate) fn of(elf: Elf<'a>) -> Result<Self> {
-        let headers = elf.section_headers()?;
-        let mut count = 0;
-        for header in headers.iter().filter(holds_relocs) {
-            elf.relocs(&header)?;
-            count += 1;
-        }
-        Ok(RelocSections { elf, headers, count })
-    }
-}
-
-list!(RelocSections of (usize, RelocSection<'a>), by RelocSectionIterator<'a>,
-    "relocation section", "relocation sections");
-
 pub(crate) fn holds_relocs(header: &SectionHeader) -> bool {
     header.sh_type == SHT_RELA || header.sh_type == SHT_REL
 }
-
-/// An iterator over the relocation sections of a file, each with the index of its section, from both ends.
-///
-/// ```
-/// # fn main() -> Result<(), Box<dyn std::error::Error>> {
-/// # let bytes = std::fs::read(std::env::current_exe()?)?;
-/// let elf = goblin_rs::Elf::parse(&bytes)?;
-/// let mut all = elf.shdr_relocs()?.iter();
-/// let left = all.len();
-/// assert_eq!(all.next_back().is_some(), left > 0);
-/// # Ok(())
-/// # }
-/// ```
-#[derive(Clone, Debug)]
-#[must_use = "iterators are lazy and do nothing unless consumed"]
-pub struct RelocSectionIterator<'a> {
-    elf: Elf<'a>,
-    headers: Enumerate<SectionHeaderIterator<'a>>,
-    left: usize,
-}
-
-impl<'a> RelocSectionIterator<'a> {
-    fn new(list: RelocSections<'a>) -> Self {
-        RelocSectionIterator { elf: list.elf, headers: list.headers.iter().enumerate(), left: list.count }
-    }
-
-    // Returns the relocations of a section header, if one was found, with its index.
-    fn take(&mut self, found: Option<(usize, SectionHeader)>) -> Option<(usize, RelocSection<'a>)> {
-        let (index, header) = found?;
-        self.left -= 1;
-        Some((index, made(self.elf.relocs(&header))))
-    }
-}
-
-impl<'a> Iterator for RelocSectionIterator<'a> {
-    type Item = (usize, RelocSection<'a>);
-
-    fn next(&mut self) -> Option<Self::Item> {
-        let found = self.headers.find(|(_, header)| holds_relocs(header));
-        self.take(found)
-    }
-
-    fn size_hint(&self) -> (usize, Option<usize>) {
-        (self.left, Some(self.left))
-    }
-}
-
-impl DoubleEndedIterator for RelocSectionIterator<'_> {
-    fn next_back(&mut self) -> Option<Self::Item> {
-        let found = self.headers.rfind(|(_, header)| holds_relocs(header));
-        self.take(found)
-    }
-}
-
-impl ExactSizeIterator for RelocSectionIterator<'_> {}
-
-impl FusedIterator for RelocSectionIterator<'_> {}

@@ -1,13 +1,23 @@
 //! Section headers, their constants, and the names of their numbers.
-use crate::constants::names::{SHF, SHT};
-pub use crate::constants::section_header::*;
+use crate::generated::names::{SHF, SHT};
+pub use crate::generated::section_header::*;
 use crate::elf::Elf;
 use crate::error::Result;
-use crate::items::{table, Batches, Items, List};
+use crate::items::{table, Batches, Items};
 use crate::names::name_of;
-pub use crate::raw::SectionHeader;
 use crate::{raw, sys};
 use core::ops::Range;
+
+/// A section header.
+///
+/// ```
+/// use goblin_rs::section_header::{SectionHeader, SHF_ALLOC, SHF_WRITE, SHT_PROGBITS};
+///
+/// let section =
+///     SectionHeader { sh_type: SHT_PROGBITS, sh_flags: SHF_ALLOC | SHF_WRITE, ..SectionHeader::default() };
+/// assert!(section.sh_flags & SHF_ALLOC != 0 && section.is_writable());
+/// ```
+pub use crate::raw::SectionHeader;
 
 impl SectionHeader {
     /// Returns the section's range in the file, inside the file or not, or `None` if its type is `SHT_NOBITS`. For any
@@ -52,27 +62,32 @@ impl SectionHeader {
         self.sh_flags & SHF_ALLOC != 0
     }
 
-    /// Returns its range in the file, which is empty for `SHT_NOBITS`, whatever its size.
-    pub(crate) fn range(&self) -> raw::Range {
-        match self.sh_type {
-            SHT_NOBITS => raw::Range::default(),
-            _ => raw::Range { offset: self.sh_offset, size: self.sh_size },
-        }
+    /// Returns its start and its negative end in the file, if it has bytes there, and then in memory, if it is loaded.
+    /// What it doesn't have is inside any segment.
+    pub(crate) fn bounds(&self) -> [i128; 4] {
+        let of_file = Some(i128::from(self.sh_offset)).filter(|_| self.sh_type != SHT_NOBITS);
+        let of_memory = Some(i128::from(self.sh_addr)).filter(|_| self.is_alloc());
+        let end = |start: i128| -start - i128::from(self.sh_size);
+        [of_file, of_file.map(end), of_memory, of_memory.map(end)].map(|bound| bound.unwrap_or(i128::MAX))
+    }
+
+    /// Returns what, with the bounds, decides in which segments it is: a number below 16.
+    pub(crate) fn class(&self) -> usize {
+        let parts = [self.sh_flags & SHF_TLS != 0, self.is_alloc(), self.sh_type == SHT_NOBITS, self.sh_size == 0];
+        parts.iter().fold(0, |class, part| 2 * class + usize::from(*part))
     }
 }
 
 /// The section headers of a file.
 ///
 /// ```
-/// # fn main() -> Result<(), Box<dyn std::error::Error>> {
 /// # let bytes = std::fs::read(std::env::current_exe()?)?;
 /// let elf = goblin_rs::Elf::parse(&bytes)?;
 /// let names = elf.shdr_strtab()?;
 /// for section in elf.section_headers()? {
 ///     println!("{:#x} {}", section.sh_offset, names.get(section.sh_name)?.unwrap_or(""));
 /// }
-/// # Ok(())
-/// # }
+/// # Ok::<(), Box<dyn std::error::Error>>(())
 /// ```
 #[derive(Clone, Copy, Debug)]
 pub struct SectionHeaders<'a> {
@@ -90,24 +105,9 @@ impl<'a> SectionHeaders<'a> {
     }
 }
 
-table!(SectionHeaders of SectionHeader, "section header", "section headers");
-
-impl List for SectionHeaders<'_> {
-    type Item = SectionHeader;
-}
+table!(SectionHeaders of SectionHeader, "section header", "section headers", [raw::Section; 32]);
 
 impl Batches<SectionHeader> for SectionHeaders<'_> {
-    type Raw = raw::Section;
-    type Batch = [raw::Section; 32];
-
-    fn batch() -> Self::Batch {
-        [Default::default(); 32]
-    }
-
-    fn count(&self) -> u64 {
-        self.count
-    }
-
     #[inline]
     fn item(&self, section: raw::Section) -> SectionHeader {
         section.into()

@@ -1,6 +1,7 @@
 //! String tables.
 use crate::error::{Error, Result};
 use crate::file::File;
+use crate::generated::OPEN_STRING;
 use crate::{raw, sys};
 use alloc::vec::Vec;
 #[cfg(feature = "std")]
@@ -9,13 +10,11 @@ use std::ffi::CStr;
 /// A string table: a range of the file.
 ///
 /// ```
-/// # fn main() -> Result<(), Box<dyn std::error::Error>> {
 /// # let bytes = std::fs::read(std::env::current_exe()?)?;
 /// let elf = goblin_rs::Elf::parse(&bytes)?;
 /// let names = elf.shdr_strtab()?;
 /// assert_eq!(names.get(0)?, Some(""));
-/// # Ok(())
-/// # }
+/// # Ok::<(), Box<dyn std::error::Error>>(())
 /// ```
 #[derive(Clone, Copy, Debug, Default)]
 pub struct Strtab<'a> {
@@ -36,14 +35,12 @@ impl<'a> Strtab<'a> {
     /// Returns the bytes of the string at an offset, which need not be UTF-8, or `None` past the end of the table.
     ///
     /// ```
-    /// # fn main() -> Result<(), Box<dyn std::error::Error>> {
     /// # let bytes = std::fs::read(std::env::current_exe()?)?;
     /// let elf = goblin_rs::Elf::parse(&bytes)?;
     /// let names = elf.shdr_strtab()?;
     /// let text = elf.section(".text")?.ok_or("no .text")?;
     /// assert_eq!(names.get_bytes(text.sh_name)?, Some(&b".text"[..]));
-    /// # Ok(())
-    /// # }
+    /// # Ok::<(), Box<dyn std::error::Error>>(())
     /// ```
     ///
     /// # Errors
@@ -54,18 +51,27 @@ impl<'a> Strtab<'a> {
         Ok(range.map(|range| self.file.slice(range)))
     }
 
-    /// Returns the string at an offset, which need not be UTF-8, if a zero byte of the table closes it. Returns `None`
-    /// past the end of the table and if the string ends with the table.
+    /// Returns the bytes of the string at an offset, which need not be UTF-8, if a zero byte of the table closes it.
+    /// Returns `None` past the end of the table and if the string ends with the table.
+    ///
+    /// # Errors
+    /// If the table is not inside the file.
+    #[inline]
+    pub fn get_closed_bytes(&self, offset: usize) -> Result<Option<&'a [u8]>> {
+        let range = sys::goblin_string_closed(&self.file, &self.range, offset as u64)?;
+        Ok(range.map(|range| self.file.slice(range)))
+    }
+
+    /// Returns what [`Strtab::get_closed_bytes`] does, as a string of C with its zero byte.
     ///
     /// ```
-    /// # fn main() -> Result<(), Box<dyn std::error::Error>> {
     /// # let bytes = std::fs::read(std::env::current_exe()?)?;
     /// let elf = goblin_rs::Elf::parse(&bytes)?;
     /// let text = elf.section(".text")?.ok_or("no .text")?;
-    /// let name = elf.shdr_strtab()?.get_c_str(text.sh_name)?;
-    /// assert_eq!(name.map(|name| name.to_bytes_with_nul()), Some(&b".text\0"[..]));
-    /// # Ok(())
-    /// # }
+    /// let (names, at) = (elf.shdr_strtab()?, text.sh_name);
+    /// assert_eq!(names.get_closed_bytes(at)?, Some(&b".text"[..]));
+    /// assert_eq!(names.get_c_str(at)?.map(|name| name.to_bytes_with_nul()), Some(&b".text\0"[..]));
+    /// # Ok::<(), Box<dyn std::error::Error>>(())
     /// ```
     ///
     /// # Errors
@@ -80,13 +86,11 @@ impl<'a> Strtab<'a> {
     /// closes.
     ///
     /// ```
-    /// # fn main() -> Result<(), Box<dyn std::error::Error>> {
     /// # let bytes = std::fs::read(std::env::current_exe()?)?;
     /// let elf = goblin_rs::Elf::parse(&bytes)?;
     /// let text = elf.section(".text")?.ok_or("no .text")?;
     /// assert_eq!(elf.shdr_strtab()?.closed()?.get(text.sh_name)?, Some(".text"));
-    /// # Ok(())
-    /// # }
+    /// # Ok::<(), Box<dyn std::error::Error>>(())
     /// ```
     ///
     /// # Errors
@@ -100,15 +104,13 @@ impl<'a> Strtab<'a> {
     /// for up to 64 strings, and again after an offset past its end.
     ///
     /// ```
-    /// # fn main() -> Result<(), Box<dyn std::error::Error>> {
     /// # let bytes = std::fs::read(std::env::current_exe()?)?;
     /// let elf = goblin_rs::Elf::parse(&bytes)?;
     /// let sections = elf.section_headers()?;
     /// let names = elf.shdr_strtab()?.get_all_bytes(sections.iter().map(|section| section.sh_name))?;
     /// assert_eq!(names.len(), sections.len());
     /// assert!(names.contains(&Some(&b".text"[..])));
-    /// # Ok(())
-    /// # }
+    /// # Ok::<(), Box<dyn std::error::Error>>(())
     /// ```
     ///
     /// # Errors
@@ -123,7 +125,7 @@ impl<'a> Strtab<'a> {
             let filled = sys::goblin_strings(&self.file, &self.range, batch, &mut ranges)?;
             let end = self.range.offset.saturating_add(self.range.size);
             if let Some(open) = ranges[..filled].iter().find(|string| string.offset + string.size == end) {
-                return Err(Error::open_string(&self.range, open));
+                return Err(Error::own(OPEN_STRING, open.offset - self.range.offset, open.offset));
             }
             found.extend(ranges[..filled].iter().map(|range| Some(self.file.slice(*range))));
             if filled < batch.len() {
@@ -137,29 +139,27 @@ impl<'a> Strtab<'a> {
     /// there is none. It reads no more of the string than `name` has, and one byte.
     ///
     /// ```
-    /// # fn main() -> Result<(), Box<dyn std::error::Error>> {
     /// # let bytes = std::fs::read(std::env::current_exe()?)?;
     /// let elf = goblin_rs::Elf::parse(&bytes)?;
     /// let (names, text) = (elf.shdr_strtab()?, elf.section(".text")?.ok_or("no .text")?);
-    /// assert!(names.is(text.sh_name, b".text")? && !names.is(text.sh_name, b".te")?);
-    /// assert!(names.starts_with(text.sh_name, b".te")?);
-    /// # Ok(())
-    /// # }
+    /// assert!(names.is_at(text.sh_name, b".text")? && !names.is_at(text.sh_name, b".te")?);
+    /// assert!(names.starts_at(text.sh_name, b".te")?);
+    /// # Ok::<(), Box<dyn std::error::Error>>(())
     /// ```
     ///
     /// # Errors
     /// If the table is not inside the file.
     #[inline]
-    pub fn is(&self, offset: usize, name: &[u8]) -> Result<bool> {
+    pub fn is_at(&self, offset: usize, name: &[u8]) -> Result<bool> {
         sys::goblin_string_is(&self.file, &self.range, offset as u64, name)
     }
 
-    /// Reports whether the string at an offset starts with these bytes, as [`Strtab::is`] does.
+    /// Reports whether the string at an offset starts with these bytes, as [`Strtab::is_at`] does.
     ///
     /// # Errors
     /// If the table is not inside the file.
     #[inline]
-    pub fn starts_with(&self, offset: usize, start: &[u8]) -> Result<bool> {
+    pub fn starts_at(&self, offset: usize, start: &[u8]) -> Result<bool> {
         sys::goblin_string_starts(&self.file, &self.range, offset as u64, start)
     }
 }

@@ -1,16 +1,26 @@
 //! Symbols, their constants, and the names of their numbers.
 pub use crate::address_map::AddressMap;
-use crate::constants::names::{BIND, TYPE, VISIBILITY};
-pub use crate::constants::sym::*;
+use crate::generated::names::{BIND, TYPE, VISIBILITY};
+pub use crate::generated::sym::*;
 use crate::elf::Elf;
 use crate::error::Result;
 use crate::file::File;
-use crate::items::{made, table, Batches, Items, List};
+use crate::items::{made, table, Batches, Items};
 use crate::names::name_of;
-pub use crate::raw::Sym;
 use crate::section_header::SectionHeader;
 use crate::strtab::Strtab;
 use crate::{raw, sys};
+
+/// A symbol.
+///
+/// ```
+/// use goblin_rs::section_header::SHN_UNDEF;
+/// use goblin_rs::sym::{Sym, STB_GLOBAL, STT_FUNC};
+///
+/// let symbol = Sym { st_info: STB_GLOBAL << 4 | STT_FUNC, ..Sym::default() };
+/// assert!(symbol.is_function() && symbol.is_import() && symbol.st_shndx == SHN_UNDEF);
+/// ```
+pub use crate::raw::Sym;
 
 impl Sym {
     /// Returns the binding.
@@ -78,18 +88,17 @@ pub fn get_type(info: u8) -> &'static str {
 /// A symbol table, with the string table of its names.
 ///
 /// ```
-/// # fn main() -> Result<(), Box<dyn std::error::Error>> {
 /// # let bytes = std::fs::read(std::env::current_exe()?)?;
 /// let elf = goblin_rs::Elf::parse(&bytes)?;
 /// if let Some(symbols) = elf.syms()? {
 ///     for symbol in symbols.iter().filter(|symbol| symbol.is_function()) {
 ///         println!("{:x} {}", symbol.st_value, symbols.name(&symbol)?.unwrap_or(""));
 ///     }
-///     let main = symbols.find("main")?.and_then(|index| symbols.get(index));
-///     assert!(main.map_or(true, |symbol| symbol.is_function()));
+///     if let Some((index, main)) = symbols.symbol_by_name("main", 0)? {
+///         println!("main is symbol {index}, at {:x}", main.st_value);
+///     }
 /// }
-/// # Ok(())
-/// # }
+/// # Ok::<(), Box<dyn std::error::Error>>(())
 /// ```
 #[derive(Clone, Copy, Debug)]
 pub struct Symtab<'a> {
@@ -144,7 +153,7 @@ impl<'a> Symtab<'a> {
         self.strtab.get_bytes(symbol.st_name)
     }
 
-    /// Returns the index of the symbol of an address. It contains the address: of those with
+    /// Returns the symbol of an address, and its index. It contains the address: of those with
     /// `st_value <= address < st_value + st_size` it is the one with the highest `st_value`, the first of several. If
     /// there is none, a label of size 0 may be there, as assembly has. It counts only in its own section: of the
     /// symbols with `st_value <= address` whose section holds the address, it is the first of size 0 among those with
@@ -158,9 +167,9 @@ impl<'a> Symtab<'a> {
     ///
     /// Each call reads all symbols: for many addresses use [`Symtab::address_map`].
     #[must_use]
-    pub fn at(&self, address: u64) -> Option<usize> {
-        let index = sys::goblin_symbol_by_address(&self.file, &self.header, &self.range, address);
-        made(index).map(|index| index as usize)
+    pub fn symbol_by_address(&self, address: u64) -> Option<(usize, Sym)> {
+        let index = made(sys::goblin_symbol_by_address(&self.file, &self.header, &self.range, address))? as usize;
+        Some((index, self.get(index)?))
     }
 
     // Returns the section of a symbol by its index.
@@ -175,18 +184,9 @@ impl<'a> Symtab<'a> {
         AddressMap::of(*self)
     }
 
-    /// Returns the index of the first symbol with a name: a text or bytes.
-    ///
-    /// # Errors
-    /// If the string table is not inside the file.
-    pub fn find(&self, name: impl AsRef<[u8]>) -> Result<Option<usize>> {
-        Ok(self.symbol_by_name(name, 0)?.map(|(index, _)| index))
-    }
-
-    /// Returns the first symbol with a name, from an index on, and its index.
+    /// Returns the first symbol with a name, which is a text or bytes, from an index on, and its index.
     ///
     /// ```
-    /// # fn main() -> Result<(), Box<dyn std::error::Error>> {
     /// # let bytes = std::fs::read(std::env::current_exe()?)?;
     /// # let elf = goblin_rs::Elf::parse(&bytes)?;
     /// # if let Some(symbols) = elf.syms()? {
@@ -196,8 +196,7 @@ impl<'a> Symtab<'a> {
     ///     first = index + 1;
     /// }
     /// # }
-    /// # Ok(())
-    /// # }
+    /// # Ok::<(), Box<dyn std::error::Error>>(())
     /// ```
     ///
     /// # Errors
@@ -209,24 +208,9 @@ impl<'a> Symtab<'a> {
     }
 }
 
-table!(Symtab of Sym, "symbol", "symbols");
-
-impl List for Symtab<'_> {
-    type Item = Sym;
-}
+table!(Symtab of Sym, "symbol", "symbols", [raw::Symbol; 64]);
 
 impl Batches<Sym> for Symtab<'_> {
-    type Raw = raw::Symbol;
-    type Batch = [raw::Symbol; 64];
-
-    fn batch() -> Self::Batch {
-        [Default::default(); 64]
-    }
-
-    fn count(&self) -> u64 {
-        self.count
-    }
-
     #[inline]
     fn item(&self, symbol: raw::Symbol) -> Sym {
         symbol.into()

@@ -1,9 +1,10 @@
 //! The calls of the library, which `goblin.h` declares and documents. All unsafe code of this crate is here.
 //!
 //! Each call is a safe function, since its types say all that it needs: it reads only its slices and references, and
-//! writes only its mutable ones, within their lengths. Only the tests compare these declarations with the library's.
+//! writes only its mutable ones, within their lengths. Its declaration is made of the one in `goblin.h`.
 use crate::error::{Error, Result};
 use crate::file::File;
+use crate::generated::{calls, VERSION};
 use crate::raw::{self, Dyn, Header, Note, ProgramHeader, Range, Refusal, Reloc, Section, Symbol};
 use crate::section_header::SectionHeader;
 use crate::sym::Sym;
@@ -26,16 +27,12 @@ macro_rules! calls {
         #[inline]
         pub fn $name(bytes: &[u8] $(, $header: &Header)? $(, $given: $type)* $(, items: &mut [$each])?)
             -> Result<Option<made!($item $(, $made)?)>> {
-            extern "C" {
-                fn $name(file: &raw::File $(, $given: $type)* $(, items: *mut $each, _: usize)?, item: *mut $item,
-                    why: *mut Refusal) -> u32;
-            }
             let file = raw::File::of(bytes, None$(.or(Some($header)))?);
             let (mut item, mut why) = <($item, Refusal)>::default();
             // SAFETY: each pointer of a slice is passed with the slice's length. `item` and `why` are this function's
             // own, and all references and slices outlive the call. It writes only numbers.
             let status = unsafe {
-                $name(&file $(, $given)* $(, items.as_mut_ptr() as *mut $each, items.len())?, &mut item, &mut why)
+                calls::$name(&file $(, $given)* $(, <[$each]>::as_mut_ptr(items), items.len())?, &mut item, &mut why)
             };
             result(status, item, why).map(|found| found.map(<made!($item $(, $made)?)>::from))
         }
@@ -86,12 +83,9 @@ calls! {
 
 /// Returns the header at the start of a file.
 pub fn goblin_file(bytes: &[u8]) -> Result<Header> {
-    extern "C" {
-        fn goblin_file(bytes: *const u8, len: usize, file: *mut raw::File, why: *mut Refusal) -> u32;
-    }
     let (mut file, mut why) = (raw::File::of(bytes, None), Refusal::default());
     // SAFETY: the pointer of the slice is passed with the slice's length. `file` and `why` are this function's own.
-    let status = unsafe { goblin_file(bytes.as_ptr(), bytes.len(), &mut file, &mut why) };
+    let status = unsafe { calls::goblin_file(bytes.as_ptr(), bytes.len(), &mut file, &mut why) };
     result(status, file.header, why).map(|header| header.expect("a file that is not refused has a header"))
 }
 
@@ -100,13 +94,10 @@ macro_rules! comparisons {
     ($(fn $name:ident(by $by:ident);)*) => {$(
         #[inline]
         pub fn $name(bytes: &[u8], strings: &Range, offset: u64, $by: &[u8]) -> Result<bool> {
-            extern "C" {
-                fn $name(file: &raw::File, strings: &Range, offset: u64, $by: *const u8, _: usize) -> bool;
-            }
             let file = raw::File::of(bytes, None);
             // SAFETY: each pointer of a slice is passed with the slice's length, and all references and slices outlive
             // the call. It writes nothing.
-            let matches = unsafe { $name(&file, strings, offset, $by.as_ptr(), $by.len()) };
+            let matches = unsafe { calls::$name(&file, strings, offset, $by.as_ptr().cast(), $by.len()) };
             // (it is false, too, if the table is refused)
             Ok(matches || goblin_string(bytes, strings, strings.size)?.is_some())
         }
@@ -121,17 +112,13 @@ comparisons! {
 /// Finds the ranges of the strings at some offsets, as many as fit, up to the first offset past the end of the table.
 /// Returns their number.
 pub fn goblin_strings(bytes: &[u8], strings: &Range, offsets: &[u64], ranges: &mut [Range]) -> Result<usize> {
-    extern "C" {
-        fn goblin_strings(file: &raw::File, strings: &Range, offsets: *const u64, _: usize, ranges: *mut Range,
-            _: usize, filled: *mut u64, why: *mut Refusal) -> u32;
-    }
     let file = raw::File::of(bytes, None);
     let (mut filled, mut why) = <(u64, Refusal)>::default();
     // SAFETY: each pointer of a slice is passed with the slice's length. `filled` and `why` are this function's own,
     // and all references and slices outlive the call. It writes only numbers.
     let status = unsafe {
-        goblin_strings(&file, strings, offsets.as_ptr(), offsets.len(), ranges.as_mut_ptr(), ranges.len(), &mut filled,
-            &mut why)
+        let (offsets, count, made, most) = (offsets.as_ptr(), offsets.len(), ranges.as_mut_ptr(), ranges.len());
+        calls::goblin_strings(&file, strings, offsets, count, made, most, &mut filled, &mut why)
     };
     result(status, (), why).map(|_| filled as usize)
 }
@@ -143,16 +130,13 @@ macro_rules! searches {
         #[inline]
         pub fn $name(bytes: &[u8], header: &Header $(, $given: $type)* $(, $by: &[u8])?, first: u64)
             -> Result<Option<(u64, made!($item $(, $made)?))>> {
-            extern "C" {
-                fn $name(file: &raw::File $(, $given: $type)* $(, $by: *const u8, _: usize)?, first: u64,
-                    index: *mut u64, item: *mut $item, why: *mut Refusal) -> u32;
-            }
             let file = raw::File::of(bytes, Some(header));
             let (mut index, mut item, mut why) = <(u64, $item, Refusal)>::default();
             // SAFETY: each pointer of a slice is passed with the slice's length. The results are this function's own,
             // and all references and slices outlive the call. It writes only numbers.
             let status = unsafe {
-                $name(&file $(, $given)* $(, $by.as_ptr(), $by.len())?, first, &mut index, &mut item, &mut why)
+                let (first, found, made) = (first, &mut index, &mut item);
+                calls::$name(&file $(, $given)* $(, $by.as_ptr().cast(), $by.len())?, first, found, made, &mut why)
             };
             result(status, (index, item.into()), why)
         }
@@ -171,14 +155,11 @@ searches! {
 macro_rules! writes {
     ($(fn $name:ident($($given:ident: $type:ty),*);)*) => {$(
         pub fn $name(bytes: &mut [u8], header: &Header $(, $given: $type)*) -> Result<bool> {
-            extern "C" {
-                fn $name(bytes: *mut u8, len: usize, header: &Header $(, $given: $type)*, why: *mut Refusal) -> u32;
-            }
             check_interface();
             let mut why = Refusal::default();
             // SAFETY: the pointer of the slice is passed with the slice's length. `why` is this function's own, and all
             // references and slices outlive the call. It writes only numbers.
-            let status = unsafe { $name(bytes.as_mut_ptr(), bytes.len(), header $(, $given)*, &mut why) };
+            let status = unsafe { calls::$name(bytes.as_mut_ptr(), bytes.len(), header $(, $given)*, &mut why) };
             result(status, (), why).map(|written| written.is_some())
         }
     )*};
@@ -196,19 +177,17 @@ writes! {
 
 /// Returns a header that counts only the headers that are whole inside the file.
 pub fn goblin_whole_header(bytes: &[u8], header: &Header) -> Header {
-    extern "C" { fn goblin_whole_header(file: &raw::File, whole: *mut raw::File); }
     let (file, mut whole) = (raw::File::of(bytes, Some(header)), raw::File::of(bytes, None));
     // SAFETY: the pointer of the slice is passed with the slice's length, and `whole` is this function's own.
-    unsafe { goblin_whole_header(&file, &mut whole) };
+    unsafe { calls::goblin_whole_header(&file, &mut whole) };
     whole.header
 }
 
 /// Returns the part of a range that is inside the file.
 pub fn goblin_range_in_file(bytes: &[u8], range: &Range) -> Range {
-    extern "C" { fn goblin_range_in_file(file: &raw::File, range: &Range, part: *mut Range); }
     let (file, mut part) = (raw::File::of(bytes, None), Range::default());
     // SAFETY: the pointer of the slice is passed with the slice's length, and `part` is this function's own.
-    unsafe { goblin_range_in_file(&file, range, &mut part) };
+    unsafe { calls::goblin_range_in_file(&file, range, &mut part) };
     part
 }
 
@@ -236,12 +215,10 @@ pub fn c_string<'a>(bytes: &'a [u8], strings: &Range, offset: u64) -> Result<Opt
 macro_rules! texts {
     ($(fn $name:ident($given:ident: $type:ty $(, by $by:ident)?);)*) => {$(
         pub fn $name($($by: &[u8], )? $given: $type, text: &mut [u8]) -> usize {
-            extern "C" {
-                fn $name($($by: *const u8, _: usize, )? $given: $type, text: *mut u8, capacity: usize) -> u64;
-            }
             check_interface();
+            let (text, most) = (text.as_mut_ptr().cast(), text.len());
             // SAFETY: each pointer is passed with the length of its slice, and all outlive the call.
-            unsafe { $name($($by.as_ptr(), $by.len(), )? $given, text.as_mut_ptr(), text.len()) as usize }
+            unsafe { calls::$name($($by.as_ptr().cast(), $by.len(), )? $given, text, most) as usize }
         }
     )*};
 }
@@ -265,24 +242,19 @@ texts! {
     fn goblin_refusal_to_str(why: &Refusal);
 }
 
-/// The interface that these calls are of: `GOBLIN_VERSION` of `goblin.h`.
-pub const VERSION: u32 = 8;
-
 /// Panics if the library that is linked has another interface. Its calls may take other arguments.
 #[inline]
 pub fn check_interface() {
-    extern "C" { fn goblin_version() -> u32; }
     // SAFETY: it takes no argument.
-    let interface = unsafe { goblin_version() };
+    let interface = unsafe { calls::goblin_version() };
     assert_eq!(interface, VERSION, "libgoblin_c.a has another interface than goblin_rs");
 }
 
 #[cfg(test)]
 pub fn layout() -> crate::raw::tests::Layout {
-    extern "C" { fn goblin_layout(layout: *mut crate::raw::tests::Layout, size: usize) -> usize; }
     let mut layout = Default::default();
     let size = std::mem::size_of_val(&layout);
     // SAFETY: it writes only numbers to `layout`, within its size.
-    assert_eq!(unsafe { goblin_layout(&mut layout, size) }, size);
+    assert_eq!(unsafe { calls::goblin_layout((&mut layout as *mut crate::raw::tests::Layout).cast(), size) }, size);
     layout
 }

@@ -7,7 +7,7 @@ use goblin_rs::{Elf, Error};
 use std::fmt::Debug;
 
 mod made;
-use made::{made, FORMS};
+use made::{in_each_form, made, section_at, segment_at, FORMS};
 
 /// Returns what each adaptor and each consuming method of an iterator returns for some items, as text.
 fn forwards<I>(items: impl Fn() -> I) -> Vec<(&'static str, String)>
@@ -176,11 +176,9 @@ fn the_first_section_header_has_the_number_of_headers() {
         assert_eq!(elf.section_headers().unwrap().len(), 7);
         assert_eq!(elf.whole().header, elf.header);
         let cut = Elf::parse(&file[..at + 3 * size + 1]).unwrap();
-        let whole = cut.whole();
-        assert_eq!(
-            (whole.header.e_shnum, whole.section_header(2), whole.section_header(3)),
-            (3, elf.section_header(2), Ok(None))
-        );
+        let (whole, second) = (cut.whole(), elf.section_header(2));
+        let found = (whole.header.e_shnum, whole.section_header(2), whole.section_header(3));
+        assert_eq!(found, (3, second, Ok(None)));
         let without = Elf::parse(&file[..at + size - 1]).unwrap();
         let refused = Kind::TooBig { size: size as u64, len: size as u64 - 1 };
         assert_eq!(without.section_header(6).map_err(|e| e.kind()), Err(refused));
@@ -197,9 +195,7 @@ fn ranges(len: u64) -> Vec<(u64, u64)> {
 
 #[test]
 fn symbols_are_refused_or_all_there() {
-    for form in FORMS {
-        let file = made(form, 0);
-        let elf = Elf::parse(&file).unwrap();
+    in_each_form(|form, file, elf| {
         let (len, entry) = (file.len() as u64, if form.is_64 { 24 } else { 16 });
         for (offset, size) in ranges(len) {
             let requested = size / entry * entry;
@@ -217,14 +213,12 @@ fn symbols_are_refused_or_all_there() {
                 has_each(symbols, each(|index| symbols.get(index)));
             }
         }
-    }
+    });
 }
 
 #[test]
 fn relocations_are_refused_or_all_there() {
-    for form in FORMS {
-        let file = made(form, 0);
-        let elf = Elf::parse(&file).unwrap();
+    in_each_form(|form, file, elf| {
         let len = file.len() as u64;
         for ((offset, size), (sh_type, numbers)) in
             ranges(len).into_iter().flat_map(|range| [(range, (SHT_RELA, 3)), (range, (SHT_REL, 2))])
@@ -243,23 +237,21 @@ fn relocations_are_refused_or_all_there() {
                 has_each(relocs, each(|index| relocs.get(index)));
             }
         }
-    }
+    });
 }
 
 /// Returns a file with another byte at an offset of a section.
 fn with_byte(file: &[u8], section: usize, offset: usize, byte: u8) -> Vec<u8> {
     let mut file = file.to_vec();
-    let start = Elf::parse(&file).unwrap().section_header(section).unwrap().unwrap().sh_offset as usize;
+    let start = section_at(&Elf::parse(&file).unwrap(), section).sh_offset as usize;
     file[start + offset] = byte;
     file
 }
 
 #[test]
 fn notes_are_refused_or_all_there() {
-    for form in FORMS {
-        let file = made(form, 0);
-        let elf = Elf::parse(&file).unwrap();
-        let (section, segment) = (elf.section_header(1).unwrap().unwrap(), elf.program_header(0).unwrap().unwrap());
+    in_each_form(|_, file, elf| {
+        let (section, segment) = (section_at(&elf, 1), segment_at(&elf, 0));
         assert_eq!(section.sh_type, SHT_NOTE);
         let notes: Vec<_> = elf.notes(&section).unwrap().iter().collect();
         assert_eq!(notes.iter().map(|note| note.name).collect::<Vec<_>>(), ["GNU", "goblin"]);
@@ -267,7 +259,7 @@ fn notes_are_refused_or_all_there() {
         assert_eq!(forwards(|| elf.notes(&segment).unwrap().into_iter()), wanted);
         // the first byte of each name is not UTF-8
         for (offset, readable) in [(12, 0), (32, 1)] {
-            let damaged = with_byte(&file, 1, offset, 0xff);
+            let damaged = with_byte(file, 1, offset, 0xff);
             let elf = Elf::parse(&damaged).unwrap();
             let refused = elf.notes(&section).unwrap_err();
             assert!(matches!(refused.kind(), Kind::BadInput { .. }));
@@ -275,10 +267,8 @@ fn notes_are_refused_or_all_there() {
             let of_all = [elf.iter_note_sections().unwrap(), elf.iter_note_headers().unwrap()];
             assert_eq!(of_all.map(|mut all| all.nth(readable).unwrap().text()), [None; 2]);
             for (before, why) in [elf.readable_notes(&section), elf.readable_notes(&segment)] {
-                assert_eq!(
-                    (forwards(|| before.iter()), why),
-                    (forwards(|| notes[..readable].iter().copied()), Some(refused))
-                );
+                assert_eq!(forwards(|| before.iter()), forwards(|| notes[..readable].iter().copied()));
+                assert_eq!(why, Some(refused));
             }
         }
         let (all, why) = elf.readable_notes(&section);
@@ -286,15 +276,13 @@ fn notes_are_refused_or_all_there() {
         let cut = Elf::parse(&file[..200]).unwrap();
         assert_eq!(cut.iter_note_sections().unwrap_err().kind(), Kind::BadOffset(cut.header.e_shoff));
         assert_eq!(cut.iter_note_headers().unwrap_err().kind(), Kind::BadOffset(cut.header.e_phoff));
-    }
+    });
 }
 
 #[test]
 fn notes_as_bytes_are_refused_or_all_there() {
-    for form in FORMS {
-        let file = made(form, 0);
-        let elf = Elf::parse(&file).unwrap();
-        let (section, segment) = (elf.section_header(1).unwrap().unwrap(), elf.program_header(0).unwrap().unwrap());
+    in_each_form(|_, file, elf| {
+        let (section, segment) = (section_at(&elf, 1), segment_at(&elf, 0));
         let notes: Vec<_> = elf.notes_bytes(&section).unwrap().iter().collect();
         let fields: Vec<_> = notes.iter().map(|note| (note.n_type, note.name, note.desc)).collect();
         assert_eq!(fields, [(3, &b"GNU\0"[..], &b"abcd"[..]), (0x1234, b"goblin\0", b"hello")]);
@@ -303,29 +291,22 @@ fn notes_as_bytes_are_refused_or_all_there() {
         assert_eq!(forwards(|| elf.iter_note_sections().unwrap()), wanted);
         assert_eq!(forwards(|| elf.iter_note_headers().unwrap()), wanted);
         // the first byte of the second name is not UTF-8
-        let damaged = with_byte(&file, 1, 32, 0xff);
+        let damaged = with_byte(file, 1, 32, 0xff);
         let read: Vec<_> =
             Elf::parse(&damaged).unwrap().notes_bytes(&section).unwrap().iter().map(|note| note.name).collect();
         assert_eq!(read, [&b"GNU\0"[..], b"\xffoblin\0"]);
         // the range ends in the first note's header, name and descriptor, and then in those of the second
-        for (size, readable, item) in [
-            (11, 0, Item::NoteHeader),
-            (15, 0, Item::NoteName),
-            (19, 0, Item::NoteDesc),
-            (31, 1, Item::NoteHeader),
-            (38, 1, Item::NoteName),
-            (44, 1, Item::NoteDesc),
-        ] {
+        let items = [Item::NoteHeader, Item::NoteName, Item::NoteDesc];
+        for (size, n) in [11, 15, 19, 31, 38, 44].into_iter().zip(0..) {
+            let (readable, item) = (n / 3, items[n % 3]);
             let section = SectionHeader { sh_size: size, ..section };
             let segment = ProgramHeader { p_filesz: size, ..segment };
             let refused = elf.notes_bytes(&section).unwrap_err();
             assert_eq!((refused.item(), refused.offset()), (Some(item), section.sh_offset + 20 * readable as u64));
             assert_eq!(elf.notes_bytes(&segment).unwrap_err(), refused);
             for (before, why) in [elf.readable_notes_bytes(&section), elf.readable_notes_bytes(&segment)] {
-                assert_eq!(
-                    (forwards(|| before.iter()), why),
-                    (forwards(|| notes[..readable].iter().copied()), Some(refused))
-                );
+                assert_eq!(forwards(|| before.iter()), forwards(|| notes[..readable].iter().copied()));
+                assert_eq!(why, Some(refused));
             }
         }
         let unaligned = SectionHeader { sh_addralign: 16, ..section };
@@ -333,42 +314,37 @@ fn notes_as_bytes_are_refused_or_all_there() {
         assert_eq!((refused.kind(), refused.item()), (Kind::NoteAlign(16), None));
         let empty = SectionHeader { sh_size: 0, ..section };
         assert!(elf.notes_bytes(&empty).unwrap().is_empty());
-    }
+    });
 }
 
 #[test]
 fn sections_of_relocations_are_refused_or_all_there() {
-    for form in FORMS {
-        let file = made(form, 0);
-        let elf = Elf::parse(&file).unwrap();
+    in_each_form(|form, file, elf| {
         let sections = elf.section_headers().unwrap();
-        let wanted: Vec<_> =
-            [4, 5].map(|index| (index, elf.relocs(&sections.get(index).unwrap()).unwrap())).to_vec();
-        has_each(elf.shdr_relocs().unwrap(), wanted);
+        let wanted = [4, 5].map(|index| (index, elf.relocs(&sections.get(index).unwrap()).unwrap()));
+        assert_eq!(elf.shdr_relocs().unwrap(), wanted);
         for (index, len) in [(4, 6 * form.wide()), (5, 2 * form.wide())] {
             // `sh_offset` of this section is that of the file's last byte
-            let mut damaged = file.clone();
+            let mut damaged = file.to_vec();
             let offset = elf.header.e_shoff as usize + if form.is_64 { 64 * index + 24 } else { 40 * index + 16 };
             damaged[offset..offset + form.wide()]
                 .copy_from_slice(&form.numbers(&[(form.wide(), file.len() as u64 - 1)]));
             let elf = Elf::parse(&damaged).unwrap();
             assert_eq!(elf.shdr_relocs().unwrap_err().kind(), Kind::TooBig { size: len as u64, len: 1 });
             let read: Vec<_> =
-                [4, 5].iter().map(|index| elf.relocs(&elf.section_header(*index).unwrap().unwrap()).is_ok()).collect();
+                [4, 5].iter().map(|index| elf.relocs(&section_at(&elf, *index)).is_ok()).collect();
             assert_eq!(read, [index != 4, index != 5]);
         }
         let cut = Elf::parse(&file[..200]).unwrap();
         assert_eq!(cut.shdr_relocs().unwrap_err().kind(), Kind::BadOffset(cut.header.e_shoff));
         assert_eq!(cut.syms().unwrap_err().kind(), Kind::BadOffset(cut.header.e_shoff));
         assert_eq!(cut.dynsyms().unwrap_err().kind(), Kind::BadOffset(cut.header.e_shoff));
-    }
+    });
 }
 
 #[test]
 fn a_table_of_another_type_is_refused() {
-    for form in FORMS {
-        let file = made(form, 0);
-        let elf = Elf::parse(&file).unwrap();
+    in_each_form(|_, _, elf| {
         for section in elf.section_headers().unwrap() {
             let sh_type = section.sh_type;
             let refused = |item| Some((Kind::SectionType(sh_type), Some(item)));
@@ -378,5 +354,5 @@ fn a_table_of_another_type_is_refused() {
             let is_of_relocs = [SHT_RELA, SHT_REL].contains(&sh_type);
             assert_eq!(of_relocs, refused(Item::Relocations).filter(|_| !is_of_relocs));
         }
-    }
+    });
 }

@@ -1,9 +1,8 @@
-//! Tests this crate's source, what it has in common with the rest of the repository, and what it reads of the stored
-//! files. This file is not installed, since it needs the repository.
+//! Tests this crate's source, and what it reads of the stored files. It is installed nowhere: it needs the repository.
 use goblin_rs::reloc::RelocSection;
 use goblin_rs::{Elf, Result};
+use std::fs;
 use std::path::Path;
-use std::{fs, mem};
 
 /// Returns a value as the stored lines have it: `-` for none, and `!` if it is refused.
 fn shown<T>(value: Result<T>, show: impl Fn(T) -> String) -> String {
@@ -34,7 +33,7 @@ fn field(elf: &Elf<'_>, name: &str) -> String {
         "dynrelas" => shown(elf.dynrelas(), sums),
         "dynrels" => shown(elf.dynrels(), sums),
         "plt" => shown(elf.pltrelocs(), sums),
-        "shdr" => shown(elf.shdr_relocs(), |all| all.iter().map(counts).collect::<Vec<_>>().join(",")),
+        "shdr" => shown(elf.shdr_relocs(), |all| all.into_iter().map(counts).collect::<Vec<_>>().join(",")),
         "libraries" => shown(elf.libraries(), |names| names.join(",")),
         "rpaths" => shown(elf.rpaths(), |names| names.join(",")),
         "runpaths" => shown(elf.runpaths(), |names| names.join(",")),
@@ -83,6 +82,27 @@ fn fields_are_goblin_s() {
     assert!(found > 500, "{found} fields");
 }
 
+#[test]
+fn build_ids_are_those_of_the_facts() {
+    let folder = Path::new(env!("CARGO_MANIFEST_DIR")).join("../../checks/files");
+    let facts = fs::read_to_string(folder.join("facts.json")).unwrap();
+    let mut found = 0;
+    for (path, fields) in facts.lines().filter_map(|line| line.strip_prefix('"')?.split_once("\": {")) {
+        let bytes = fs::read(folder.join(path)).unwrap();
+        let elf = Elf::parse(&bytes).unwrap();
+        // (what is refused has no fact)
+        let id = elf.build_id().unwrap_or(None);
+        found += usize::from(id.is_some());
+        let id: Option<String> = id.map(|id| id.iter().map(|byte| format!("{byte:02x}")).collect());
+        let fact = format!("\"build_id\": {},", id.map_or("null".to_string(), |id| format!("{id:?}")));
+        assert!(fields.contains(&fact), "{path}: {fact}");
+        // (the symbols and the sections of a debug file can be read)
+        let is_debug = fields.contains("\"debug file\"") && !path.contains("cut");
+        assert!(!is_debug || (elf.syms().is_ok() && elf.section(".text").is_ok()), "{path}");
+    }
+    assert!(found > 10, "{found}");
+}
+
 /// Returns the name and the text of each source in a folder of the repository, without its subfolders.
 fn sources(folder: &str) -> Vec<(String, String)> {
     let folder = Path::new(env!("CARGO_MANIFEST_DIR")).join("../..").join(folder);
@@ -90,73 +110,13 @@ fn sources(folder: &str) -> Vec<(String, String)> {
     files.map(|file| (file.file_name().into_string().unwrap(), fs::read_to_string(file.path()).unwrap())).collect()
 }
 
-/// Returns the constants of the sources in a folder, each with its comment.
-fn constants(folder: &str) -> Vec<String> {
-    sources(folder).iter().flat_map(|(_, source)| constants_of(source)).collect()
-}
-
-fn constants_of(source: &str) -> Vec<String> {
-    let is_constant = |line: &str| line.starts_with("pub const ");
-    let (mut all, mut item, mut is_open) = (Vec::new(), String::new(), false);
-    for line in source.lines().map(str::trim) {
-        let is_comment = !is_open && line.starts_with("///");
-        is_open |= is_constant(line);
-        if is_comment || is_open {
-            item = item + line + "\n";
-        } else {
-            item.clear();
-        }
-        if is_open && line.ends_with(';') {
-            is_open = false;
-            all.push(mem::take(&mut item));
-        }
-    }
-    assert_eq!(all.len(), source.lines().filter(|line| is_constant(line.trim())).count());
-    all
-}
-
-/// Returns a constant of the library with the type of the field that holds it: `sh_flags` or `st_shndx`.
-fn with_type_of_field(constant: &str) -> String {
-    let (of_flags, of_indices) = (constant.contains("pub const SHF_"), constant.contains("pub const SHN_"));
-    let wide = if of_flags { "u64" } else { "usize" };
-    if of_flags || of_indices {
-        constant.replacen("u32", wide, 1)
-    } else {
-        constant.to_string()
-    }
-}
-
-/// What to do if the library's constants have changed since the crate's were made.
-const RUN: &str = "run `python3 faces/constants.py`";
-
-#[test]
-fn constants_are_the_library_s() {
-    let mut theirs = constants("crates/goblin_headers/src");
-    theirs.extend(constants("crates/goblin_records/src"));
-    theirs.extend(constants("crates/goblin_dynamic/src"));
-    theirs.extend(constants("faces"));
-    assert!(theirs.len() >= 416);
-    let mut theirs: Vec<_> = theirs.iter().map(|constant| with_type_of_field(constant)).collect();
-    let mut ours = constants("faces/rust/src/constants");
-    theirs.sort();
-    ours.sort();
-    for (ours, theirs) in ours.iter().zip(&theirs) {
-        assert_eq!(ours, theirs, "{RUN}");
-    }
-    assert_eq!(ours.len(), theirs.len(), "{RUN}");
-}
-
-/// Returns the lines of a source that declare public types. `raw.rs` declares them by a macro.
+/// Returns the lines of a source that declare public types. Those that are generated are made public elsewhere, and the
+/// types of `raw.rs` and `file.rs` are private to the crate.
 fn declarations<'a>(name: &str, source: &'a str) -> Vec<(usize, &'a str)> {
-    let words = ["pub struct ", "pub enum ", "pub trait "];
-    let records = ["    Header {", "    SectionHeader {", "    ProgramHeader {", "    Sym {", "    Dyn {"];
-    let declares = |line: &str| match name {
-        "raw.rs" => records.contains(&line),
-        // (its type is private to the crate)
-        "file.rs" => false,
-        _ => words.iter().any(|word| line.starts_with(word)),
-    };
-    source.lines().enumerate().filter(|(_, line)| declares(line)).collect()
+    let words = ["pub struct ", "pub enum ", "pub trait ", "pub use crate::raw::", "pub use crate::generated::"];
+    let declares = |line: &str| words.iter().any(|word| line.starts_with(word)) && !line.ends_with("::*;");
+    let is_public = !["raw.rs", "file.rs", "generated.rs"].contains(&name);
+    source.lines().enumerate().filter(|(_, line)| is_public && declares(line)).collect()
 }
 
 #[test]
@@ -174,5 +134,5 @@ fn each_type_has_an_example() {
             found += 1;
         }
     }
-    assert!(found >= 24, "{found} types");
+    assert!(found >= 29, "{found} types");
 }

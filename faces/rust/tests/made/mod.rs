@@ -1,4 +1,9 @@
 //! Makes small files of both classes and byte orders.
+// (no test uses all of this)
+#![allow(dead_code)]
+use goblin_rs::program_header::ProgramHeader;
+use goblin_rs::section_header::SectionHeader;
+use goblin_rs::{Elf, Kind};
 
 /// A class and a byte order.
 #[derive(Clone, Copy, Debug)]
@@ -61,6 +66,35 @@ impl Form {
 const W: usize = 0;
 const SECTION_NAMES: &[u8] = b"\0.note\0.symtab\0.strtab\0.rela\0.rel\0.names\0\xff\0";
 pub const STRINGS: &[u8] = b"\0first\0second\0\xc3\xa9t\xc3\xa9\0\xff\0";
+
+/// Runs a test with the file of each form.
+pub fn in_each_form(test: impl for<'a> Fn(Form, &'a [u8], Elf<'a>)) {
+    for form in FORMS {
+        let file = made(form, 0);
+        test(form, &file, Elf::parse(&file).unwrap());
+    }
+}
+
+/// Returns the section header at an index.
+pub fn section_at(elf: &Elf<'_>, index: usize) -> SectionHeader {
+    elf.section_header(index).unwrap().unwrap()
+}
+
+/// Returns the program header at an index.
+pub fn segment_at(elf: &Elf<'_>, index: usize) -> ProgramHeader {
+    elf.program_header(index).unwrap().unwrap()
+}
+
+/// Returns the kind and the offset of an error.
+pub fn why<T: std::fmt::Debug>(result: goblin_rs::Result<T>) -> (Kind, u64) {
+    let e = result.unwrap_err();
+    (e.kind(), e.offset())
+}
+
+/// Returns the index of an item that was found.
+pub fn index<T>(found: Option<(usize, T)>) -> Option<usize> {
+    found.map(|(index, _)| index)
+}
 
 /// Returns a file with seven sections, two segments and four named symbols, and with a number of unnamed symbols
 /// after these.
