@@ -6,7 +6,6 @@ ghost use Rattle.goblin_base.specs.Entries.{CountsAtLeast};
 ghost use Rattle.goblin_base.specs.Marks.{AreAscii, HaveMarks, mask_of};
 ghost use Rattle.goblin_base.specs.Pieces.{piece_end};
 
-use crate::ascii::lowest_set;
 use std::simd::prelude::*;
 
 /// How many bytes are read at once.
@@ -36,13 +35,4 @@ impl Marks {
             highs: lanes.simd_ge(u8x16::splat(0x80)).to_bitmask(),
         }
     }
-}
-
-/// Returns how many of the last `left` bytes stand before the first that is marked.
-#[inline(always)]
-pub(crate) fn next_marked(mask: u64, left: usize) -> usize
-    requires { left ≤ LANES }
-    ensures { result ≡ lowest_set (mask / 2 ^ (LANES - left)) left }
-{
-    lowest_set(mask >> (LANES - left), left)
 }

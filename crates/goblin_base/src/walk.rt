@@ -10,9 +10,10 @@ ghost use Rattle.goblin_base.specs.Utf8.{invalid_utf8};
 ghost use Rattle.goblin_base.specs.Ascii.{lowest_set};
 ghost use Rattle.goblin_base.specs.Marks.{AreAscii, HaveMarks, mask_of};
 
+use crate::ascii::lowest_set;
 use crate::entries::{Entries, Looked};
 use crate::error::Result;
-use crate::marks::{LANES, Marks, next_marked};
+use crate::marks::{LANES, Marks};
 use crate::options::ParseMode;
 use crate::utf8::{Awaited, invalid_utf8};
 use std::alloc::{AllocError, Global};
@@ -175,6 +176,15 @@ fn ended(awaited: Awaited, at: usize) -> Found
     } else {
         Found::Fault(at)
     }
+}
+
+// Returns how many of the last `left` bytes stand before the first that is marked.
+#[inline(always)]
+fn next_marked(mask: u64, left: usize) -> usize
+    requires { left ≤ LANES }
+    ensures { result ≡ lowest_set (mask / 2 ^ (LANES - left)) left }
+{
+    lowest_set(mask >> (LANES - left), left)
 }
 
 /// Returns where the piece at an offset ends, and whether its bytes are ASCII.

@@ -10,11 +10,11 @@ use Rattle.goblin_base.specs.{Eager.records_from, Eager.records_in, Eager.room_o
 use Rattle.goblin_base.specs.{Fields.Field, Fields.FieldsFit, Layout.IsRecord, Number.IsBytes, Record.records}
 use Rattle.goblin_base.specs.{Record.unless_fault, TableLaws.records-agree, declared.container.Container.Container}
 use Rattle.goblin_c.proofs.Common.{Decides, GoblinHeader, GoblinRange, List, None, Ok, Option, RefusalAt, Result, Some}
-use Rattle.goblin_c.proofs.Common.{[], arith, context_of, drop, drop-drop, fits-room_of, get_or_from_slice_get, get_records}
-use Rattle.goblin_c.proofs.Common.{length, length-drop, length-map, map, mod-eq_of_lt, nat_tests, option_map}
-use Rattle.goblin_c.proofs.Common.{position_or_len, refl, room_of, segments_expected, slice_get, slice_get-get_or}
-use Rattle.goblin_c.proofs.Common.{slice_get-map, slice_get_within, suc, take, true, zero, ℕ, ◌*◌, ◌+◌, ◌-◌, ◌<◌, ◌==◌}
-use Rattle.goblin_c.proofs.Common.{◌>>=◌, ◌∙◌, ◌∷◌, ◌≡◌, ◌≤◌}
+use Rattle.goblin_c.proofs.Common.{[], arith, context_of, drop, drop-drop, fits-room_of, get_or_from_slice_get}
+use Rattle.goblin_c.proofs.Common.{get_records, length, length-drop, length-map, map, mod-eq_of_lt, nat_tests}
+use Rattle.goblin_c.proofs.Common.{option_map, position_or_len, refl, room_of, segments_expected, slice_get}
+use Rattle.goblin_c.proofs.Common.{slice_get-get_or, slice_get-map, slice_get_within, suc, take, true, zero, ℕ, ◌*◌}
+use Rattle.goblin_c.proofs.Common.{◌+◌, ◌-◌, ◌<◌, ◌==◌, ◌>>=◌, ◌∙◌, ◌∷◌, ◌≡◌, ◌≤◌}
 use Rattle.goblin_c.specs.Common.{Ctx, Header, Layout, Refused, SectionHeader}
 use Rattle.goblin_c.specs.File.{ContextIsTheHeaders, HasHeader, NamesContext, header_converted}
 use Rattle.goblin_c.specs.Items.{FindsItemFrom, RefusesAll, each_converted, found_item, item_at}

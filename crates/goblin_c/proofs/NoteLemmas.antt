@@ -5,9 +5,9 @@
 -- (`in_a_row`). The parts of a note lie in the file because its places do (`notes_lie_in_file`).
 use Rattle.goblin.specs.Note.{note_at, note_items, places_at, read_places}
 use Rattle.goblin.specs.{NoteLaws.note_by_note, NoteLaws.whole_is_note, declared.elf.note.NotePlaces.NotePlaces}
-use Rattle.goblin_c.proofs.Common.{GoblinHeader, GoblinRange, List, Ok, Some, arith, context_of, drop, fits-room_of, length}
-use Rattle.goblin_c.proofs.Common.{length-drop, length-take, nat_tests, refl, suc, take, take_all, zero, ℕ, ◌+◌, ◌-◌}
-use Rattle.goblin_c.proofs.Common.{◌<◌, ◌≡◌}
+use Rattle.goblin_c.proofs.Common.{GoblinHeader, GoblinRange, List, Ok, Some, arith, context_of, drop, fits-room_of}
+use Rattle.goblin_c.proofs.Common.{length, length-drop, length-take, nat_tests, refl, suc, take, take_all, zero, ℕ, ◌+◌}
+use Rattle.goblin_c.proofs.Common.{◌-◌, ◌<◌, ◌≡◌}
 use Rattle.goblin_c.specs.Notes.{NotesAreItems, NotesAreText, NotesInARow, NotesLieInFile, WholeNotesAreNotes}
 use Rattle.goblin_c.specs.Notes.{items_reported, note_converted, note_expected, note_utf8_expected, notes_reported}
 use Rattle.goblin_c.specs.Notes.{parts_at, read_parts}

@@ -12,9 +12,10 @@ use Rattle.goblin_c.proofs.Common.{position_or_len, refl, refuse_as, room_of, ro
 use Rattle.goblin_c.proofs.Common.{slice_get, slice_get-map, slice_get_within, sym, true, ℕ, ◌<◌, ◌>>=◌, ◌∙◌, ◌≡◌}
 use Rattle.goblin_c.proofs.{BufferLemmas.ends-before, ListLemmas.converted_one, ListLemmas.fails_before}
 use Rattle.goblin_c.specs.Numbers.{IsSlice, NumbersAreFound, NumbersLieInRange, PartsLieInFile}
-use Rattle.goblin_c.specs.Segments.{AddressesAreLoaded, IsOffsetOf, LoadsByte, LoadsFirst, offset_in_file, segment_converted}
+use Rattle.goblin_c.specs.Segments.{AddressesAreLoaded, IsOffsetOf, LoadsByte, LoadsFirst, offset_in_file}
 use Rattle.goblin_c.specs.{Common.ProgramHeader, Common.misplaced, Laws.BytesAreFound, Notes.NotesRefuseThere}
-use Rattle.goblin_c.specs.{Results.refused_at, Segments.segment_expected, declared.segments.GoblinSegment.GoblinSegment}
+use Rattle.goblin_c.specs.{Results.refused_at, Segments.segment_converted, Segments.segment_expected}
+use Rattle.goblin_c.specs.{declared.segments.GoblinSegment.GoblinSegment}
 use Rattle.std.proofs.Common.{false, find, inr, subst, true≢false}
 use Rattle.std.proofs.{Math.Seq.take-nil, lemmas.List.drop_all, lemmas.List.take_min, lemmas.List.Folds.find_at}
 use Rattle.std.proofs.{lemmas.List.Sums.passes_at_first}

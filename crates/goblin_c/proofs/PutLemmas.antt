@@ -19,10 +19,10 @@ use Rattle.goblin_c.specs.File.{FitsClass, HeadersAreRead, header_expected, head
 use Rattle.goblin_c.specs.Laws.{CountsStay, PutsAreRead, PutsChangeOne, ReadsArePut, UnfitAreRefused}
 use Rattle.goblin_c.specs.Numbers.{NumbersArePut, NumbersInRangesArePut, is_width, number_expected, number_in_expected}
 use Rattle.goblin_c.specs.Puts.{ChangesOnly, put_at, put_if_there, put_unless, with_bytes}
-use Rattle.goblin_c.specs.{Common.Ctx, Common.Error, Common.Layout, Common.refusal_of, Dynamic.dyn_from_c, Items.count_of}
-use Rattle.goblin_c.specs.{Items.each_converted, Items.item_at, Relocs.reloc_from_c, Results.refusal_converted}
-use Rattle.goblin_c.specs.{Results.refused_at, Sections.section_from_c, Segments.segment_from_c, Symbols.symbol_from_c}
-use Rattle.goblin_c.specs.{declared.misfit.Misfit.Misfit}
+use Rattle.goblin_c.specs.{Common.Ctx, Common.Error, Common.Layout, Common.refusal_of, Dynamic.dyn_from_c}
+use Rattle.goblin_c.specs.{Items.count_of, Items.each_converted, Items.item_at, Relocs.reloc_from_c}
+use Rattle.goblin_c.specs.{Results.refusal_converted, Results.refused_at, Sections.section_from_c}
+use Rattle.goblin_c.specs.{Segments.segment_from_c, Symbols.symbol_from_c, declared.misfit.Misfit.Misfit}
 use Rattle.goblin_headers.proofs.WholeTrips.{reads_back}
 use Rattle.std.proofs.{Common.append_assoc, Common.length-append, Math.Seq.take-append_seam, lemmas.List.drop_at}
 use Rattle.std.proofs.{lemmas.List.take-append-drop}
@@ -112,7 +112,10 @@ reads_are_put = record {
   symbol = λ bytes h table index s.
       read_is_put (symbols h table) symbol_from_c bytes index s (λ x fits. grind (arith, mod-eq_of_lt));
   reloc = λ bytes h table is_rela index r are found.
-      (read_is_put (relocs h table is_rela) (reloc_from_c is_rela) bytes index r (λ x fits. grind (arith, mod-eq_of_lt)) are
+      (read_is_put (relocs h table is_rela) (reloc_from_c is_rela) bytes index r (λ x fits. grind (
+        arith,
+        mod-eq_of_lt,
+      )) are
       found).1;
   entry = λ bytes h range index d are is.
       grind (arith, same_items, read_is_put (entries h range) (λ x. x) bytes index (dyn_from_c d) (λ x fits. refl) are);

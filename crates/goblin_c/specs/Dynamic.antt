@@ -103,7 +103,8 @@ dyn_misfit d = misfit_from 0 ((entry 4).fields d)
 
 abbrev pub dyn_put_expected : List ℕ → GoblinHeader → GoblinRange → ℕ → GoblinDyn → Option Misfit → Put
 dyn_put_expected bytes h range index d misfit =
-    put_if_there (entry_expected bytes h range index) (put_at (dyn_layout_of h) bytes range.offset index (dyn_from_c d) misfit)
+    put_if_there (entry_expected bytes h range index) (put_at (dyn_layout_of h) bytes range.offset index (dyn_from_c d)
+    misfit)
 
 -- the entries that are stored from an index on are those of the library's list, if it does not end before the index
 abbrev pub EntriesAreListed : Type 0

@@ -2,20 +2,21 @@
 use Rattle.goblin_c.specs.Common.{Dyn, GoblinDyn, GoblinHeader, GoblinRange, GoblinReloc, GoblinSection, GoblinSegment}
 use Rattle.goblin_c.specs.Common.{GoblinSymbol, IsBytes, Misfit, ProgramHeader, Reloc, SectionHeader, Sym, has_name}
 use Rattle.goblin_c.specs.Common.{is_utf8, plain, ◌>>=◌}
-use Rattle.goblin_c.specs.Dynamic.{DynFits, dyn_layout_of, dyn_from_c, dyn_put_expected, entry_expected}
+use Rattle.goblin_c.specs.Dynamic.{DynFits, dyn_from_c, dyn_layout_of, dyn_put_expected, entry_expected}
 use Rattle.goblin_c.specs.Numbers.{IsItsRange, LiesIn, number_expected, number_in_expected, number_in_put_expected}
-use Rattle.goblin_c.specs.Relocs.{RelocFitsTable, reloc_converted, reloc_count_expected, reloc_expected, reloc_layout_of}
-use Rattle.goblin_c.specs.Relocs.{reloc_from_c, reloc_put_expected, relocs_expected, relocs_from_expected}
+use Rattle.goblin_c.specs.Relocs.{RelocFitsTable, reloc_converted, reloc_count_expected, reloc_expected, reloc_from_c}
+use Rattle.goblin_c.specs.Relocs.{reloc_layout_of, reloc_put_expected, relocs_expected, relocs_from_expected}
 use Rattle.goblin_c.specs.Sections.{SectionFits, section_by_name_expected, section_converted, section_count_expected}
-use Rattle.goblin_c.specs.Sections.{section_expected, section_layout_of, section_from_c, section_put_expected}
+use Rattle.goblin_c.specs.Sections.{section_expected, section_from_c, section_layout_of, section_put_expected}
 use Rattle.goblin_c.specs.Sections.{section_range_expected, sections_expected, sections_from_expected}
 use Rattle.goblin_c.specs.Segments.{SegmentFits, segment_converted, segment_count_expected, segment_expected}
-use Rattle.goblin_c.specs.Segments.{segment_layout_of, segment_from_c, segment_put_expected, segment_range_expected}
+use Rattle.goblin_c.specs.Segments.{segment_from_c, segment_layout_of, segment_put_expected, segment_range_expected}
 use Rattle.goblin_c.specs.Symbols.{SymbolFits, symbol_by_name_expected, symbol_converted, symbol_count_expected}
-use Rattle.goblin_c.specs.Symbols.{symbol_expected, symbol_layout_of, symbol_from_c, symbol_put_expected, symbols_expected}
+use Rattle.goblin_c.specs.Symbols.{symbol_expected, symbol_from_c, symbol_layout_of, symbol_put_expected}
 use Rattle.goblin_c.specs.{File.whole_header_for_c, Items.GivenFrom, Items.first_item, Numbers.number_put_expected}
 use Rattle.goblin_c.specs.{Puts.ChangesOnly, Puts.IsUnfit, Results.RefusalAt, Segments.segments_from_expected}
-use Rattle.goblin_c.specs.{Strings.string_expected, Strings.strings_expected, Symbols.symbols_from_expected}
+use Rattle.goblin_c.specs.{Strings.string_expected, Strings.strings_expected, Symbols.symbols_expected}
+use Rattle.goblin_c.specs.{Symbols.symbols_from_expected}
 use Rattle.std.specs.Prelude.{Bool, IsOk, List, None, Ok, Option, Result, Some, length, slice_get, true, ℕ, ◌*◌, ◌+◌}
 use Rattle.std.specs.Prelude.{◌≡◌, ◌≢◌, ◌⊎◌}
 

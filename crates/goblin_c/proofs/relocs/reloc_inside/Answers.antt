@@ -1,8 +1,8 @@
 -- The bytes of the table hold the record, which its list has at the index.
 use Rattle.goblin.specs.Reloc.{reloc_in, reloc_size}
 use Rattle.goblin_base.specs.TableLaws.{records-agree}
-use Rattle.goblin_c.proofs.Common.{arith, context_of, drop, drop-drop, get_records, le-div_iff_mul-le, length, nat_tests}
-use Rattle.goblin_c.proofs.Common.{room_of_fits, slice_get-map, take, ◌*◌}
+use Rattle.goblin_c.proofs.Common.{arith, context_of, drop, drop-drop, get_records, le-div_iff_mul-le, length}
+use Rattle.goblin_c.proofs.Common.{nat_tests, room_of_fits, slice_get-map, take, ◌*◌}
 use Rattle.goblin_c.specs.Relocs.{reloc_ctx}
 use Rattle.goblin_records.specs.RelocLaws.{reloc_laws}
 use Rattle.std.proofs.Common.{◌/◌}
