@@ -2,8 +2,7 @@
 --
 -- How near a symbol is makes one number, 0 if it is no candidate (`score`). A search keeps the first symbol with the
 -- highest such number (`IsFound`, `one_more`), and that one is what the law says (`found_is`). What the law says is
--- what
--- the definition finds, too (`at_is`), so the law has one answer only.
+-- what the definition finds, too (`at_is`), so the law has one answer only.
 use Rattle.std.proofs.Common.{◌≡◌, ◌≤◌, ◌<◌, ◌+◌, ◌*◌, ◌&&◌, ◌||◌, ℕ, zero, suc, Bool, true, false, ltb, arith, ◌==◌}
 use Rattle.std.proofs.Common.{if◌then◌else◌, List, [], ◌∷◌, length, slice_get, Option, Some, None, rules, inl, inr}
 use Rattle.std.proofs.Common.{refl, sym, ap, subst, ◌∙◌, position}

@@ -201,7 +201,8 @@ each_fits class.Big = headers_fit (header_laws class.Big)
 
 -- a header that fits a class fits it in either byte order
 fits_in : (class : Container) (order : Endian) (h : Header) → HeaderFits class h → (header_layout class order).Fits h
-fits_in class order h fits = grind arith
+fits_in class.Little order h fits = fits
+fits_in class.Big order h fits = fits
 
 -- bytes that begin with the magic number do so whatever bytes follow
 begins_so : (image ident after rest : List ℕ)
