@@ -138,7 +138,7 @@ def test(room, whole, over, anew):
     # (all kinds together take fewer checks, and each by itself ends sooner)
     for some in [','.join(kinds)] if whole else kinds:
         parts += edits(crates_with(some.split(',')), copy, *anew, '--kinds', some, what='edits' if whole else some)
-    parts += [here('refused allocations', 'sh checks/allocations.sh'),
+    parts += [here('refused allocations', f'{PYTHON} checks/allocations.py'),
               ran('the program', f'{PYTHON} checks/program.py', 'proof of goblin_show', 'proof of goblin_uses'),
               ran('hostile files', f'{PYTHON} checks/limits.py', 'proof of goblin_show', 'proof of goblin_allocation_tests'),
               # (it builds the program here, which these run too unless `rt ci` built theirs)
