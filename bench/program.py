@@ -16,6 +16,11 @@ import sys
 import tempfile
 import time
 
+sys.dont_write_bytecode = True
+sys.path.append('checks')
+from crates import make_program, with_those_below
+from kept import take
+
 SHOW = 'crates/goblin_show/out/goblin_show'
 READELF = ['timeout', '10', 'readelf', '-W', '-h', '-S', '-s', '-r']
 LONGEST = 1 << 24
@@ -56,16 +61,9 @@ def calls():
     """Times calls of the library, by a program over a copy of the crates and of what checks have cached of them."""
     print('calls of the library, in nanoseconds, the least of 9 runs, once their program is proved:', flush=True)
     with tempfile.TemporaryDirectory(prefix='bench-') as room:
-        crates = ('goblin_base', 'goblin_headers', 'goblin_records', 'goblin')
-        for crate in crates:
-            shutil.copytree(f'crates/{crate}', f'{room}/crates/{crate}', ignore=shutil.ignore_patterns('target'), symlinks=True)
-        shutil.copy('HANDLES', room)
-        with open('crates.txt', encoding='utf-8') as listed, open(f'{room}/crates.txt', 'w', encoding='utf-8') as own:
-            # (rt refuses a crate of the list that has no folder)
-            own.writelines(line for line in listed if line.partition(':')[0] in crates)
-            own.write('goblin_bench: goblin goblin_base\n')
-        os.makedirs(f'{room}/crates/goblin_bench/src')
-        shutil.copy('bench/calls.main', f'{room}/crates/goblin_bench/src/main.rt')
+        make_program('goblin_bench: goblin goblin_base', 'bench/calls.main', room)
+        for crate in with_those_below('goblin'):
+            take(crate, '.', room)
         ran = subprocess.run(['rt', 'run'], cwd=f'{room}/crates/goblin_bench', stdout=subprocess.PIPE, stderr=subprocess.PIPE, text=True)
         if ran.returncode:
             sys.exit(f'{ran.stderr[-3000:]}\nmake bench: the program of bench/calls.main is not proved or does not run')

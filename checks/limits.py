@@ -19,6 +19,7 @@ import struct
 import subprocess
 import sys
 import tempfile
+from pathlib import Path
 
 PROGRAM = 'crates/goblin_show/out/goblin_show'
 CALLS = 'crates/goblin_allocation_tests/out/goblin_allocation_tests'
@@ -39,36 +40,38 @@ HELD = {
 
 LONGEST = 1 << 24
 SHT_NULL, SHT_PROGBITS, SHT_SYMTAB, SHT_STRTAB, SHT_RELA, SHT_REL = 0, 1, 2, 3, 4, 9
-HEADER_SIZE = SECTION_SIZE = 64
 RELA_SIZE, REL_SIZE = 24, 16
-WIDE = '\U0001f600'.encode()
-BAD = b'\xff'
+WIDE, BAD = '\U0001f600'.encode(), b'\xff'
+NAMES = b''.join(b'symbol_%06d\0' % i for i in range(300_000))
+NAMED = range(0, len(NAMES), len(NAMES) // 300_000)
+# The most sections whose number has bytes below 128; where the body begins, after their headers; a large size; and strings of it.
+TEXT_SECTIONS, TEXT_BODY, TEXT_SIZE = 0x7f7f, 0x200000, 0x7f0000
+SHORT_STRINGS, LONG_STRINGS = ((b'a' * size + b'\0') * (TEXT_SIZE // (size + 1)) for size in (15, 4095))
 
 
 def section(kind, offset, size, link=0, name=0):
     return struct.pack('<IIQQQQIIQQ', name, kind, 0, 0, offset, size, link, 0, 0, 24)
 
 
-def symbol(name, value):
-    """A global function in section 1."""
-    return struct.pack('<IBBHQQ', name, 18, 0, 1, value, 0)
+def symbols(names, values=itertools.repeat(0)):
+    """The records of global functions in section 1, with names at these places."""
+    return b''.join(struct.pack('<IBBHQQ', name, 18, 0, 1, value, 0) for name, value in zip(names, values))
 
 
 def body_start(count):
     """Where the body begins of a file of so many sections, the null section not counted."""
-    return HEADER_SIZE + SECTION_SIZE * (1 + count)
+    return 64 + 64 * (1 + count)
 
 
 def elf(sections, body, names=0):
     """A program for x86-64: its header, the headers of the null section and of these, one of which has their names, and the body."""
-    header = struct.pack('<16sHHIQQQIHHHHHH', b'\x7fELF\2\1\1', 2, 62, 1, 0, 0, HEADER_SIZE, 0, HEADER_SIZE, 0, 0, SECTION_SIZE,
-                         1 + len(sections), names)
+    header = struct.pack('<16sHHIQQQIHHHHHH', b'\x7fELF\2\1\1', 2, 62, 1, 0, 0, 64, 0, 64, 0, 0, 64, 1 + len(sections), names)
     return b''.join([header, section(SHT_NULL, 0, 0), *sections, body])
 
 
 def symbols_file(places, names, times=1):
     """A file of symbol sections over the same symbols, so many times, and of the string table that has their names at these places."""
-    table, start = b''.join(symbol(place, i) for i, place in enumerate(places)), body_start(1 + times)
+    table, start = symbols(places, itertools.count()), body_start(1 + times)
     strings = section(SHT_STRTAB, start + len(table), len(names))
     return elf([strings] + [section(SHT_SYMTAB, start, len(table), link=1)] * times, table + names)
 
@@ -78,10 +81,6 @@ def in_turn(tables, count, text, step=1):
     start = body_start(tables + count)
     strings = [section(SHT_STRTAB, start + i * step, len(text) - i * step) for i in range(tables)]
     return elf(strings + [section(SHT_SYMTAB, start, 1, link=1 + i % tables) for i in range(1 + tables, 1 + tables + count)], text)
-
-
-NAMES = b''.join(b'symbol_%06d\0' % i for i in range(300_000))
-NAMED = range(0, len(NAMES), len(NAMES) // 300_000)
 
 
 def relocs():
@@ -94,19 +93,14 @@ def relocations():
     return elf([section(SHT_RELA, body_start(1), len(entries))], entries)
 
 
-# The most sections whose number has two such bytes; where the body begins, after their headers; and a large size.
-TEXT_SECTIONS = 0x7f7f
-TEXT_BODY = 0x200000
-TEXT_SIZE = 0x7f0000
-# The offset of the first name that is asked for, and the strings that the names lie in.
-FIRST_NAME = 0x600000
-SHORT_STRINGS = (b'a' * 15 + b'\0') * (TEXT_SIZE // 16)
-LONG_STRINGS = (b'a' * 4095 + b'\0') * (TEXT_SIZE // 4096)
-
-
 def low_numbers(start, count):
     """So many numbers, the first ones from `start` on, whose bytes are all below 128."""
     return itertools.islice((number for number in itertools.count(start) if not number & 0x80808080), count)
+
+
+def low_names(count):
+    """Where so many names lie: 6 MB and more after the start of the strings that they lie in."""
+    return low_numbers(0x600000, count)
 
 
 def text_file(sections, body=b'', names=0):
@@ -115,8 +109,7 @@ def text_file(sections, body=b'', names=0):
 
 
 def text_symbols(count, strings):
-    """A file of so many symbols, whose names lie 6 MB and more after the start of these strings."""
-    table = b''.join(symbol(name, 0) for name in low_numbers(FIRST_NAME, count))
+    table = symbols(low_names(count))
     headers = [section(SHT_STRTAB, TEXT_BODY + len(table), TEXT_SIZE), section(SHT_SYMTAB, TEXT_BODY, len(table), link=1)]
     return text_file(headers, table + strings)
 
@@ -135,7 +128,7 @@ def text_tables():
 
 
 def text_sections():
-    headers = [section(SHT_PROGBITS, 0, 0, name=name) for name in low_numbers(FIRST_NAME, TEXT_SECTIONS - 2)]
+    headers = [section(SHT_PROGBITS, 0, 0, name=name) for name in low_names(TEXT_SECTIONS - 2)]
     return text_file([section(SHT_STRTAB, TEXT_BODY, TEXT_SIZE)] + headers, SHORT_STRINGS, names=1)
 
 
@@ -194,8 +187,7 @@ def make(folder):
         made = maker()
         if name.startswith('text_') and not made.isascii():
             sys.exit(f'limits: a byte of {name} is above 127')
-        with open(os.path.join(folder, name), 'wb') as file:
-            file.write(made)
+        Path(folder, name).write_bytes(made)
 
 
 def limited(space, *more):
@@ -205,14 +197,13 @@ def limited(space, *more):
 
 def took(path, arguments, limit):
     """Whether a run over a file, which is ended where it passes a limit, ends as it should, and its processor seconds."""
-    limits = limited(MOST if path.endswith('/memory') else USUAL, (resource.RLIMIT_CPU, limit), (resource.RLIMIT_STACK, STACK))
-    with open(path, 'rb') as file:
-        started = subprocess.Popen([PROGRAM, *arguments], stdin=file, preexec_fn=limits, stdout=subprocess.PIPE)
-    with started.stdout as output:
-        said = output.read(READ)
-    _, status, used = os.wait4(started.pid, 0)
-    started.returncode = status
-    ended = len(said) == READ if path.endswith('endless') else os.WIFEXITED(status) and os.WEXITSTATUS(status) < 2
+    limits = limited(MOST if path.name == 'memory' else USUAL, (resource.RLIMIT_CPU, limit), (resource.RLIMIT_STACK, STACK))
+    with open(path, 'rb') as file, subprocess.Popen([PROGRAM, *arguments], stdin=file, preexec_fn=limits, stdout=subprocess.PIPE) as ran:
+        said = ran.stdout.read(READ)
+        ran.stdout.close()
+        _, status, used = os.wait4(ran.pid, 0)
+        ran.returncode = status
+    ended = len(said) == READ if path.name.endswith('endless') else os.WIFEXITED(status) and os.WEXITSTATUS(status) < 2
     return ended and not said.startswith(OUT_OF_MEMORY), used.ru_utime + used.ru_stime
 
 
@@ -227,15 +218,14 @@ def main():
     with tempfile.TemporaryDirectory(prefix='limits-') as folder:
         make(folder)
         for name, (_, *limits) in MAKERS.items():
-            for mode, limit in zip(('strict', 'permissive'), limits):
-                well, seconds = took(f'{folder}/{name}', ['permissive'] * (mode == 'permissive'), limit)
+            for mode, arguments, limit in zip(('strict', 'permissive'), ([], ['permissive']), limits):
+                well, seconds = took(Path(folder, name), arguments, limit)
                 wrong += not well
                 print(f'{name}, {mode}: {seconds:.2f} of {limit} seconds{"" if well else ": OVER THE LIMIT, or it failed"}')
     print(f'limits: {2 * len(MAKERS)} runs, {wrong} over a limit or failed')
     over = [form for form, limit in HELD.items() if not holds(form, limit)]
     print(f'limits: {len(HELD)} lists of the library, over the limit of their memory: {", ".join(over) or "none"}')
-    wrong += len(over)
-    return 1 if wrong else 0
+    return 1 if wrong or over else 0
 
 
 if __name__ == '__main__':

@@ -18,7 +18,7 @@ import time
 
 sys.dont_write_bytecode = True
 sys.path.append('checks/edits')
-from crates import crates_listed, fail, run
+from crates import crates_listed, run, with_those_below
 from gate import copied
 from verdict import CHECKED, Said
 
@@ -27,25 +27,20 @@ SLOWEST = 10
 
 def check(crate, folder):
     """What a check at half limits says of a crate, and the seconds of the functions that it checked."""
-    run = {'cwd': folder, 'stdin': subprocess.DEVNULL, 'stderr': subprocess.STDOUT}
+    how = {'cwd': folder, 'stdin': subprocess.DEVNULL, 'stderr': subprocess.STDOUT}
     # at the full limits, which leaves what depends on them to the second check, and builds the libraries below
-    subprocess.run(['rt', 'check'], stdout=subprocess.DEVNULL, **run)
-    text, seconds, before = '', {}, None
-    with subprocess.Popen(['rt', 'check', '--margin', '--jobs', '1'], stdout=subprocess.PIPE, text=True, errors='replace', **run) as ran:
+    subprocess.run(['rt', 'check'], stdout=subprocess.DEVNULL, **how)
+    lines, ends = [], []
+    with subprocess.Popen(['rt', 'check', '--margin', '--jobs', '1'], stdout=subprocess.PIPE, text=True, errors='replace', **how) as ran:
         for line in ran.stdout:
-            text += line
-            if found := CHECKED.match(line):
-                now = time.time()
-                seconds.update({found[1]: now - before} if before else {})
-                before = now
-    return Said(text, crate), seconds
+            lines.append(line)
+            ends += [(found[1], time.time()) for found in CHECKED.finditer(line)]
+    return Said(''.join(lines), crate), {name: end - before for (_, before), (name, end) in zip(ends, ends[1:])}
 
 
 def main():
     crates, failed = sys.argv[1:] or list(crates_listed()), 0
-    for crate in crates:
-        if crate not in crates_listed():
-            fail(f'crates.txt has no crate {crate}')
+    with_those_below(*crates)
     with tempfile.TemporaryDirectory(prefix='margin-') as room:
         copied(room, '.')
         for number, crate in enumerate(crates, 1):

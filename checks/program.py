@@ -142,7 +142,10 @@ def others(names, symbols):
     signs = bytes(range(1, 128))
     printed = ''.join('?' if sign < 32 or sign == 127 else chr(sign) for sign in signs)
     outside = lambda size, offset: f'refused: Malformed entity: Section 0 size ({size}) + offset ({offset}) is out of bounds. Overflowed: false\n'
+    damaged = changed(names, (53, bad))
     return [
+        # a byte in its string table that is not UTF-8
+        (strict, damaged, 'refused: bad input invalid utf8 (3)\n'), (permissive, damaged, text.replace('name=.s\n', 'name=\n')),
         (strict, *widest()),
         # each sign of ASCII in a name
         (strict, changed(names, (112, b'\x88\0\0\0\x81'), more=b'\0' + signs + b'\0'),
@@ -167,19 +170,17 @@ def main():
     file, shown = Path('crates/goblin_show/stdin'), Path('crates/goblin_show/stdout').read_bytes()
     texts = {path: wanted_of(path) for path in FILES}
     with tempfile.TemporaryDirectory(prefix='program-') as folder, open('/dev/full', 'wb') as full:
-        # (a byte in its string table that is not UTF-8)
-        damaged = Path(folder, 'damaged')
-        damaged.write_bytes(file.read_bytes()[:53] + b'\xff' + file.read_bytes()[54:])
-        # No argument means strict, `permissive` means permissive, and all others print the usage.
-        rows = [(0, shown, file, strict), (0, shown, file, permissive), (1, b'refused: bad input invalid utf8 (3)\n', damaged, strict),
-                (0, shown.replace(b'name=.s\n', b'name=\n'), damaged, permissive)]
-        rows += [(2, usage, file, arguments) for arguments in [('strict',), ('',), ('Permissive',), permissive * 2, ('permissive', '')]]
-        # (a folder can be opened, and each read of it fails)
-        rows += [(2, b'', folder, strict), (2, b'', folder, permissive), *((2, b'', input, strict, PROGRAMS, full) for input in (file, damaged))]
-        examples = (0, Path('checks/files/uses.shown').read_bytes(), 'checks/files/uses', strict, EXAMPLES)
+        rows = []
         for at, (arguments, content, text) in enumerate(others(file, FILES[0])):
             Path(folder, f'{at}').write_bytes(content)
             rows.append((int(text.startswith('refused: ')), text.encode(), Path(folder, f'{at}'), arguments))
+        # No argument means strict, `permissive` means permissive, and all others print the usage.
+        rows += [(0, shown, file, strict), (0, shown, file, permissive)]
+        rows += [(2, usage, file, arguments) for arguments in [('strict',), ('',), ('Permissive',), permissive * 2, ('permissive', '')]]
+        # (a folder can be opened, and each read of it fails; the first of the others is refused)
+        rows += [(2, b'', folder, strict), (2, b'', folder, permissive)]
+        rows += [(2, b'', input, strict, PROGRAMS, full) for input in (file, Path(folder, '0'))]
+        examples = (0, Path('checks/files/uses.shown').read_bytes(), 'checks/files/uses', strict, EXAMPLES)
         wrong = sum(differing(*row) for row in [*rows, examples, *((0, text.encode(), path) for path, text in texts.items())])
     lines = sum(text.count('\n') for text in texts.values())
     print(f'program: {len(PROGRAMS) * len(rows)} runs with arguments or what fails, and {len(FILES)} files, {lines} lines compared with readelf: '

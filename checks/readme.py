@@ -20,7 +20,7 @@ import sys
 import tempfile
 
 sys.dont_write_bytecode = True
-from crates import text_of
+from crates import copy_crates, text_of, with_those_below
 
 HERE = shlex.quote(os.getcwd())
 # The line of what a program prints of a library, and a string of app.c that is gone if somebody links it with --gc-sections.
@@ -82,9 +82,7 @@ def shown(lines, _):
 
 def reader(lines, folder):
     """Makes a reader of one's own over copies of the crates that README names, by `rt try` for `rt check`: nothing is proved."""
-    crates = run(['python3 checks/crates.py goblin'], '').split()
-    run([f'cp -R --parents {" ".join(f"crates/{crate}/{part}" for crate in crates for part in ("src", "specs", "proofs"))} "$TO"',
-         *(f'grep ^{crate}: crates.txt >> "$TO/crates.txt"' for crate in crates)], '', TO=folder)
+    copy_crates(with_those_below('goblin'), folder)
     # (what is left of the template is its source)
     run([*(line.replace('rt check', 'rt try < src/main.rt') for line in lines), 'echo "left: $(ls | xargs)"'],
         '(?ms)^run=ended status=0.*^left: (out )?src$', folder)

@@ -34,16 +34,13 @@ mod inner;
 #[derive(Debug, Drop)] struct Shown<'a>(Looked<'a>);
 impl fmt::Debug for Shown<'_> { fn fmt<W: fmt::Write>(&self, f: &mut fmt::Formatter<W>) -> fmt::Result { f.field("bytes", &self.bytes) } }
 doors
-cp -R --parents HANDLES crates/goblin_base/src crates/goblin_base/specs crates/goblin_base/proofs "$folder"
-mkdir -p "$folder/crates/views/src"
-{ grep '^goblin_base:' crates.txt; echo 'views: goblin_base'; } > "$folder/crates.txt"
-walk=crates/goblin_base/src/walk.rt
-echo "fn again<'a>(view: &Looked<'a>) -> Looked<'a> { Looked::new(view.bytes) }" >> "$folder/$walk"
-code=$folder/crates/views/src/main.rt
+code=$folder/main walk=crates/goblin_base/src/walk.rt
 printf '#![tactic(auto)]\nfn main(_rt: HostRuntime) {}\n' > "$code"
 for view in $views; do
     printf "fn %s_${view##*::}(view: &goblin_base::$view<'_>) { let _value = view.%s(); }\n" len len clone clone >> "$code"
 done
+python3 checks/crates.py --program 'views: goblin_base' "$code" "$folder"
+echo "fn again<'a>(view: &Looked<'a>) -> Looked<'a> { Looked::new(view.bytes) }" >> "$folder/$walk"
 (cd "$folder/crates/views" && rt try) > "$folder/said" 2>&1 || true
 for view in $views; do
     line=$(grep -n "clone.*$view" "$code" | cut -d : -f 1)

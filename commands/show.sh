@@ -24,16 +24,13 @@ fail_as_said() {
     fail "$1; the toolchain's messages are above"
 }
 
-# Prints checksums of the sources and of the program. They are stored in $note after the program was proved and built: of the sources those
-# from before, because they may change meanwhile.
-sums() {
-    sources
-    sha256sum "$show"
+# Prints checksums of what a program is made of. They are stored beside it with its own: those from before it was made, because the sources may
+# change meanwhile.
+sources() {
+    if [ "$1" = "$show" ]; then python3 checks/crates.py --sum goblin_show; else python3 checks/crates.py --sum goblin_text commands/try.main; fi
 }
-sources() { python3 checks/crates.py --sum goblin_show; }
-note=$show.sources
-
-is_built() { [ -x "$show" ] && [ -f "$note" ] && [ "$(sums)" = "$(cat "$note")" ]; }
+note() { sha256sum < "$1" | cat "$folder/sources" - > "$1.sources"; }
+is_made() { [ -x "$1" ] && [ -f "$1.sources" ] && [ "$(sources "$1" && sha256sum < "$1")" = "$(cat "$1.sources")" ]; }
 
 # Runs a program over the file: run PROGRAM [permissive]
 run() {
@@ -54,52 +51,41 @@ folder_of_try() {
     printf '%s\n' "$place"
 }
 
-# Prints checksums of what the program without a proof is compiled from. They are stored likewise.
-sources_of_try() {
-    python3 checks/crates.py --sum goblin_text
-    sha256sum < commands/try.main
-}
-
-is_compiled() {
-    [ -x "$tried" ] && [ -f "$tried.sources" ] && [ "$(sources_of_try && sha256sum < "$tried")" = "$(cat "$tried.sources")" ]
-}
-
 # Compiles the program without a proof. The toolchain removes the program after it has run, so the program copies itself first.
 compile() {
     sh commands/has.sh 'make try' rt
     echo 'make try: compiling the program without a proof, which takes up to a minute' >&2
-    sources_of_try > "$folder/sources"
-    # (the copy can be written to and removed, whatever can be done with the original)
-    cp -R --no-preserve=mode --parents crates.txt HANDLES crates/*/src crates/*/specs crates/*/proofs "$folder"
-    echo 'goblin_try: goblin_text' >> "$folder/crates.txt"
-    mkdir -p "$folder/crates/goblin_try/src"
-    cp --no-preserve=mode commands/try.main "$folder/crates/goblin_try/src/main.rt"
+    sources "$tried" > "$folder/sources"
+    python3 checks/crates.py --program 'goblin_try: goblin_text' commands/try.main "$folder"
     (cd "$folder/crates/goblin_try" && rt try --steps 1000 --seconds 300 -- copy "$folder/compiled") < /dev/null > "$said" 2>&1 \
         || fail_as_said 'the program was not compiled'
     mv "$folder/compiled" "$tried" || fail_as_said 'the program was not copied'
-    sha256sum < "$tried" | cat "$folder/sources" - > "$tried.sources"
+    note "$tried"
 }
 
 # Proves each crate that the program depends on, and builds the program.
 prove_program() {
     sh commands/has.sh 'make show' rt
     [ -w crates ] || fail 'this folder is read-only, and proofs are cached in it. Use a copy, or make try'
-    sources > "$folder/sources"
+    sources "$show" > "$folder/sources"
     sh commands/libraries.sh 'make show' goblin_show
     echo 'make show: proving goblin_show' >&2
     # (the program runs once over its stored input, which shows that it was built)
     (cd ./crates/goblin_show && rt run < stdin) > "$said" 2>&1 || fail_as_said 'the proof of goblin_show failed'
-    sha256sum "$show" | cat "$folder/sources" - > "$note"
+    note "$show"
 }
 
-if [ "$goal" = built ]; then
-    sums > "$note"
-    exit 0
-fi
-if [ "$goal" = is_built ]; then
-    is_built
-    exit
-fi
+case $goal in
+    built)
+        sources "$show" > "$folder/sources"
+        note "$show"
+        exit
+        ;;
+    is_built)
+        is_made "$show"
+        exit
+        ;;
+esac
 sh commands/has.sh "make $goal" awk python3
 test -n "${SHOWN:-}" || fail "no file is given. For example: make $goal FILE=/bin/true"
 ! test -d "$SHOWN" || fail "$SHOWN is a folder. FILE must be a file"
@@ -111,11 +97,11 @@ case ${MODE:-strict} in
     *) fail "unknown MODE=$MODE. Use MODE=strict or MODE=permissive" ;;
 esac
 
-if is_built; then
+if is_made "$show"; then
     [ "$goal" = show ] || echo 'make try: this is the proved program, built from these sources.' >&2
 elif [ "$goal" = try ]; then
     tried=$(folder_of_try)/goblin_try
-    if ! is_compiled; then compile; fi
+    if ! is_made "$tried"; then compile; fi
     run "$tried" "$@"
     echo 'make try: this program was not proved. make show proves it first.' >&2
     exit 0

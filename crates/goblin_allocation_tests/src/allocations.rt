@@ -1,6 +1,44 @@
 //! Makes allocations before and after a call, so that the runner refuses one of the call's own, and judges the call's
 //! result.
+ghost use Rattle.std.specs.Prelude.{◌≤◌, IfOk};
+
 use std::alloc::Global;
+use std::io;
+use std::io::Read;
+
+/// The most bytes of input.
+pub(crate) const MOST: usize = 2048;
+
+/// Reads the input into the buffer up to its end, and returns the number of bytes read.
+pub(crate) fn read_input(rt: &HostRuntime, buffer: &mut [u8; MOST]) -> io::Result<usize>
+    ensures { IfOk result (λ filled. filled ≤ MOST) }
+{
+    let mut filled = 0;
+    for _ in 0..MOST {
+        if filled >= MOST {
+            break;
+        }
+        let count = rt.stdin().read(&mut buffer[filled..])?;
+        if count == 0 {
+            break;
+        }
+        filled += count;
+    }
+    Ok(filled.min(MOST))
+}
+
+/// Returns a word of a line as a number.
+pub(crate) fn number_of(word: Option<&str>) -> u64 {
+    word.unwrap_or("").parse::<u64>().unwrap_or(0)
+}
+
+/// Returns the numbers of the allocation that is refused, of the call's and of the program's, and whether the call
+/// should not make it.
+pub(crate) fn refusal_of(numbers: &str) -> (u64, u64, bool) {
+    let mut words = numbers.split(' ');
+    let (number, refused) = (number_of(words.next()), number_of(words.next()));
+    (number, refused, words.next() == Some("last"))
+}
 
 // Reports whether an allocation of one byte is refused.
 fn is_refused(alloc: Global) -> bool {

@@ -3,11 +3,9 @@
 //! A line `NAME` of standard input makes the call with this name and prints its result. A line `NAME N R`
 //! makes it twice, with its allocation N refused and with ample memory, and prints whether the two results
 //! are as expected. The runner refuses allocation R of the program, so R - N are made before the call. With
-//! `NAME N R last` it also prints if the call makes allocation N. `checks/allocations.sh` tries all calls.
+//! `NAME N R last` it also prints if the call makes allocation N. `checks/allocations.py` tries all calls.
 //! The calls of `held.rt` are made by `checks/limits.py` alone, with little memory.
 #![tactic(auto)]
-
-ghost use Rattle.std.specs.Prelude.{◌≤◌, IfOk};
 
 mod allocations;
 mod answer;
@@ -17,47 +15,12 @@ mod held;
 mod records;
 mod strings;
 
-use allocations::{Tried, judged, takes_all_before, was_met};
+use allocations::{MOST, Tried, judged, read_input, refusal_of, takes_all_before, was_met};
 use answer::{Answer, text_of};
 use calls::{answer_to, first_of};
 use goblin::error::Result;
 use std::alloc::Global;
 use std::io;
-use std::io::Read;
-
-// The most bytes of input.
-const MOST: usize = 2048;
-
-// Reads the input into the buffer up to its end, and returns the number of bytes read.
-fn read_input(rt: &HostRuntime, buffer: &mut [u8; MOST]) -> io::Result<usize>
-    ensures { IfOk result (λ filled. filled ≤ MOST) }
-{
-    let mut filled = 0;
-    for _ in 0..MOST {
-        if filled >= MOST {
-            break;
-        }
-        let count = rt.stdin().read(&mut buffer[filled..])?;
-        if count == 0 {
-            break;
-        }
-        filled += count;
-    }
-    Ok(filled.min(MOST))
-}
-
-// A word of a line as a number.
-fn number_of(word: Option<&str>) -> u64 {
-    word.unwrap_or("").parse::<u64>().unwrap_or(0)
-}
-
-// The numbers of the allocation that is refused, of the call's and of the program's, and whether the call should
-// not make it.
-fn refusal_of(numbers: &str) -> (u64, u64, bool) {
-    let mut words = numbers.split(' ');
-    let (number, refused) = (number_of(words.next()), number_of(words.next()));
-    (number, refused, words.next() == Some("last"))
-}
 
 // Reports whether an answer is that memory was refused, and whether it is the one with ample memory.
 fn compared(
