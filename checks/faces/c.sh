@@ -313,7 +313,7 @@ check_damaged() {
         set --
     fi
     build damaged -std=c99 "$@"
-    strictly cc -std=c99 -Ifaces/c -o "$folder/plain" faces/c/tests/damaged.c faces/c/tests/plain.c
+    strictly cc -std=c99 -Ifaces/c -DPLAIN -o "$folder/plain" faces/c/tests/damaged.c faces/c/tests/plain.c
     for file in checks/files/made/s390x_program checks/files/made/mips_program "$folder/nm" "$folder/made" "$files"; do
         if [ -d "$file" ]; then set -- "$file"/*; else set -- "$file"; fi
         quietly "$folder/plain" 1000 "$@"

@@ -62,7 +62,7 @@ link x86_64 -pie -e _start -dynamic-linker /lib/ld-made.so.1 -rpath /made/rpath 
 llvm-objcopy-14 --strip-sections whole x86_64_stripped
 objcopy --only-keep-debug whole x86_64_debug
 # A program as gcc makes it by default on Debian.
-gcc -Os -fstack-protector-strong -I. -o x86_64_program damaged.c plain.c
+gcc -Os -fstack-protector-strong -I. -DPLAIN -o x86_64_program damaged.c plain.c
 cp "$root/checks/files/made/x86_64_core" .
 
 for file in *_library *_object *_core *_stripped *_debug x86_64_program i386_program aarch64_program arm_program mips_program \
