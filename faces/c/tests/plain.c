@@ -68,41 +68,39 @@ static uint64_t field(cursor_t *c, unsigned width, uint64_t value) {
 }
 static uint64_t wide(cursor_t *c, uint64_t value) { return field(c, c->is_64 ? 8 : 4, value); }
 
+/* The next field of a record, by its width. */
+#define F1(x) ((x) = (uint8_t)field(c, 1, x))
+#define F2(x) ((x) = (uint16_t)field(c, 2, x))
+#define F4(x) ((x) = (uint32_t)field(c, 4, x))
+#define WIDE(x) ((x) = wide(c, x))
+
 static void each_of_header(cursor_t *c, goblin_header_t *h) {
-    h->e_type = (uint16_t)field(c, 2, h->e_type), h->e_machine = (uint16_t)field(c, 2, h->e_machine);
-    h->e_version = (uint32_t)field(c, 4, h->e_version), h->e_entry = wide(c, h->e_entry),
-        h->e_phoff = wide(c, h->e_phoff);
-    h->e_shoff = wide(c, h->e_shoff), h->e_flags = (uint32_t)field(c, 4, h->e_flags),
-        h->e_ehsize = (uint16_t)field(c, 2, h->e_ehsize);
-    h->e_phentsize = (uint16_t)field(c, 2, h->e_phentsize), h->e_phnum = (uint16_t)field(c, 2, h->e_phnum);
-    h->e_shentsize = (uint16_t)field(c, 2, h->e_shentsize), h->e_shnum = (uint16_t)field(c, 2, h->e_shnum);
-    h->e_shstrndx = (uint16_t)field(c, 2, h->e_shstrndx);
+    F2(h->e_type), F2(h->e_machine), F4(h->e_version), WIDE(h->e_entry), WIDE(h->e_phoff), WIDE(h->e_shoff);
+    F4(h->e_flags), F2(h->e_ehsize), F2(h->e_phentsize), F2(h->e_phnum), F2(h->e_shentsize), F2(h->e_shnum);
+    F2(h->e_shstrndx);
 }
 
 static void each_of_section(cursor_t *c, goblin_section_t *s) {
-    s->sh_name = (uint32_t)field(c, 4, s->sh_name), s->sh_type = (uint32_t)field(c, 4, s->sh_type),
-        s->sh_flags = wide(c, s->sh_flags);
-    s->sh_addr = wide(c, s->sh_addr), s->file.offset = wide(c, s->file.offset), s->file.size = wide(c, s->file.size);
-    s->sh_link = (uint32_t)field(c, 4, s->sh_link), s->sh_info = (uint32_t)field(c, 4, s->sh_info);
-    s->sh_addralign = wide(c, s->sh_addralign), s->sh_entsize = wide(c, s->sh_entsize);
+    F4(s->sh_name), F4(s->sh_type), WIDE(s->sh_flags), WIDE(s->sh_addr), WIDE(s->file.offset), WIDE(s->file.size);
+    F4(s->sh_link), F4(s->sh_info), WIDE(s->sh_addralign), WIDE(s->sh_entsize);
 }
 
 static void each_of_segment(cursor_t *c, goblin_segment_t *p) {
-    p->p_type = (uint32_t)field(c, 4, p->p_type);
-    if (c->is_64) p->p_flags = (uint32_t)field(c, 4, p->p_flags);
-    p->file.offset = wide(c, p->file.offset), p->p_vaddr = wide(c, p->p_vaddr), p->p_paddr = wide(c, p->p_paddr);
-    p->file.size = wide(c, p->file.size), p->p_memsz = wide(c, p->p_memsz);
-    if (!c->is_64) p->p_flags = (uint32_t)field(c, 4, p->p_flags);
-    p->p_align = wide(c, p->p_align);
+    F4(p->p_type);
+    if (c->is_64) F4(p->p_flags);
+    WIDE(p->file.offset), WIDE(p->p_vaddr), WIDE(p->p_paddr), WIDE(p->file.size), WIDE(p->p_memsz);
+    if (!c->is_64) F4(p->p_flags);
+    WIDE(p->p_align);
 }
 
 static void each_of_symbol(cursor_t *c, goblin_symbol_t *s) {
-    s->st_name = (uint32_t)field(c, 4, s->st_name);
-    if (!c->is_64) s->st_value = field(c, 4, s->st_value), s->st_size = field(c, 4, s->st_size);
-    s->st_info = (uint8_t)field(c, 1, s->st_info), s->st_other = (uint8_t)field(c, 1, s->st_other);
-    s->st_shndx = (uint16_t)field(c, 2, s->st_shndx);
-    if (c->is_64) s->st_value = field(c, 8, s->st_value), s->st_size = field(c, 8, s->st_size);
+    F4(s->st_name);
+    if (!c->is_64) WIDE(s->st_value), WIDE(s->st_size);
+    F1(s->st_info), F1(s->st_other), F2(s->st_shndx);
+    if (c->is_64) WIDE(s->st_value), WIDE(s->st_size);
 }
+
+static void each_of_entry(cursor_t *c, goblin_dyn_t *d) { WIDE(d->d_tag), WIDE(d->d_val); }
 
 static uint64_t reversed(uint64_t type) {
     return type >> 24 | (type >> 8 & 0xff00) | (type << 8 & 0xff0000) | (type << 24 & 0xff000000);
@@ -114,7 +112,7 @@ static void each_of_reloc(cursor_t *c, const goblin_header_t *h, bool is_rela, g
     bool is_pair = h->e_machine == GOBLIN_EM_MIPS && c->is_64 && !c->is_big;
     uint64_t sym = r->r_sym, info = !c->is_64 ? sym << 8 | r->r_type : is_pair ? reversed(r->r_type) << 32 | sym
         : sym << 32 | r->r_type;
-    r->r_offset = wide(c, r->r_offset);
+    WIDE(r->r_offset);
     if (!c->at) note(c, c->is_64 || !(sym >> 24), sym);
     if (!c->at) note(c, c->is_64 || !(r->r_type >> 8), r->r_type);
     info = c->is_64 ? field(c, 8, info) : field(c, 4, info & 0xffffffff);
@@ -128,8 +126,6 @@ static void each_of_reloc(cursor_t *c, const goblin_header_t *h, bool is_rela, g
     uint64_t addend = c->is_64 ? wide(c, (uint64_t)r->r_addend) : wide(c, (uint64_t)r->r_addend & 0xffffffff);
     r->r_addend = c->is_64 ? (int64_t)addend : (int32_t)addend;
 }
-
-static void each_of_entry(cursor_t *c, goblin_dyn_t *d) { d->d_tag = wide(c, d->d_tag), d->d_val = wide(c, d->d_val); }
 
 /* The body of a call that writes a record: `read` is the status of the call that reads it, `each` one of the functions
    above over the cursor `c` and the copy `own` of the caller's record. */
