@@ -156,7 +156,8 @@ class Unpacked:
     def versions_for_cmake(self):
         """What requests the version file meets, as of version 1.2.3. (A project's variables may have the names of words in it.)"""
         checked = [f'check({int(requests is MET)} {request})' for requests in (MET, UNMET) for request in requests.split(', ')]
-        self.run('sed "s/(PACKAGE_VERSION .*)/(PACKAGE_VERSION 1.2.3)/" "$LIBDIR/cmake/goblin_c/goblin_c-config-version.cmake" '
+        self.run('mkdir versions', 'cd versions',
+                 'sed "s/(PACKAGE_VERSION .*)/(PACKAGE_VERSION 1.2.3)/" "$LIBDIR/cmake/goblin_c/goblin_c-config-version.cmake" '
                  '> goblin_c-config-version.cmake', 'touch goblin_c-config.cmake reference-config.cmake', 'echo "$LINES" > versions.cmake',
                  'cmake -P versions.cmake', wanted='all are as expected', LINES='\n'.join([
                      'cmake_minimum_required(VERSION 3.10)', 'include(CMakePackageConfigHelpers)', 'set(INCLUDE include)', 'set(EXCLUDE exclude)',

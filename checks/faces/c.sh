@@ -162,17 +162,25 @@ check_places() {
     ends_with 0 "$lines" "$folder/truncated" "$1"
 }
 
+# Writes bytes into the copy of a file: put OFFSET BYTES ..
+put() {
+    while [ $# -gt 0 ]; do
+        printf %b "$2" | dd of="$folder/copy" bs=1 seek=$(($1)) conv=notrunc 2> "$folder/output"
+        shift 2
+    done
+}
+
 # Runs execstack.c over a program, in which it changes one bit of one flag. The file $1 has no such program header.
 check_execstack() {
     cp $program_file "$folder/stack"
-    # (p_flags of the program header at index 11)
-    flags=$((64 + 56 * 11 + 4))
+    cp $program_file "$folder/copy"
     for flag in c s c; do
         case $flag in s) shown=X byte=7 ;; *) shown=- byte=6 ;; esac
         ends_with 0 "$shown $folder/stack" "$folder/execstack" -$flag "$folder/stack"
         ends_with 0 "$shown $folder/stack" "$folder/execstack" "$folder/stack"
-        { head -c $flags $program_file && printf %b "\\00$byte" && tail -c +$((flags + 2)) $program_file; } > "$folder/wanted"
-        quietly cmp "$folder/wanted" "$folder/stack"
+        # (p_flags of the program header at index 11)
+        put 64+56*11+4 "\\000$byte"
+        quietly cmp "$folder/copy" "$folder/stack"
     done
     quietly cmp $program_file "$folder/stack"
     ends_with 1 "execstack: $1: there is no program header of type PT_GNU_STACK" "$folder/execstack" -c "$1"
@@ -186,56 +194,47 @@ check_pread() {
     awk '$1 == "LOAD" { sub(/^0x0*/, "0x", $5); sub(/^0x0*/, "0x", $6); print $3, $5, "of", $6 }
         $1 == "GNU" && $3 ~ /^NT_/ { sub("TYPE_0", "0", $3); print $1, $2, $3 }' $program_file.listed > "$folder/wanted"
     prints_wanted "$folder/pread" $program_file
-    cp $program_file "$folder/parts"
+    cp $program_file "$folder/copy"
     at() { od -An -tu"$2" -j"$1" -N"$2" $program_file | tr -d ' '; }
-    put() { printf %b "$2" | dd of="$folder/parts" bs=1 seek="$1" conv=notrunc 2> "$folder/output"; }
-    put $(($(at 40 8) + 44)) "$(printf '\\0%o' "$(at 56 2)")"
-    put 56 '\0377\0377'
-    prints_wanted "$folder/pread" "$folder/parts"
-    head -c 600 $program_file > "$folder/parts"
-    ends_with 1 "pread: the program headers can't be read" "$folder/pread" "$folder/parts"
+    put "$(at 40 8)+44" "$(printf '\\0%o' "$(at 56 2)")" 56 '\0377\0377'
+    prints_wanted "$folder/pread" "$folder/copy"
+    head -c 600 $program_file > "$folder/copy"
+    ends_with 1 "pread: the program headers can't be read" "$folder/pread" "$folder/copy"
     ends_with 1 "*pread: the notes can't be read*" "$folder/pread" checks/files/made/x86_64_core
     echo "pread.c reads parts of a file"
 }
 
-# Fails unless nm.c takes no bytes after the table of section indices for an index. In a copy of a 64-bit file that made.c makes, section 10 is
-# made such a table, of 4 bytes, for the symbols of section 7. The index of symbol 16 would be 1.
+# Fails unless nm.c lists a line of the copy: nm_lists PATTERN WHAT
+nm_lists() {
+    "$folder/nm" "$folder/copy" > "$folder/listed"
+    grep -q "^0*$1\$" "$folder/listed" || fail "nm.c does not list $2: $(cat "$folder/listed")"
+}
+
+# Changes a copy of a 64-bit file that made.c makes. Its section 10 is made a table of section indices, of 4 bytes, for the symbols of section
+# 7. So the index of symbol 16, which would be 1, is after the table, and is not taken.
 check_indices() {
-    cp "$1" "$folder/indices"
-    put() { printf %b "$2" | dd of="$folder/indices" bs=1 seek="$1" conv=notrunc 2> "$folder/output"; }
+    cp "$1" "$folder/copy"
     table=$((0x1800 + 64 * 10))
-    put $((table + 4)) '\0022'
-    put $((table + 32)) '\0004'
-    put $((table + 40)) '\0007'
-    put $((0x700 + 24 * 16 + 6)) '\0377\0377'
-    put $((0xa00 + 4 * 16)) '\0001'
-    "$folder/nm" "$folder/indices" > "$folder/listed"
-    grep -qx '0*7654321 A 65535 absolute' "$folder/listed" || fail "nm.c reads past a table of section indices: $(cat "$folder/listed")"
-    # (the index of large common symbols of x86-64)
-    put $((0x700 + 24 * 17 + 6)) '\0002\0377'
-    "$folder/nm" "$folder/indices" > "$folder/listed"
-    grep -qx '0*20 C 65282 common' "$folder/listed" || fail "nm.c does not list a large common symbol: $(cat "$folder/listed")"
+    put $((table + 4)) '\0022' $((table + 32)) '\0004' $((table + 40)) '\0007' 0x700+24*16+6 '\0377\0377' 0xa00+4*16 '\0001'
+    nm_lists '7654321 A 65535 absolute' 'a symbol whose index is past a table of indices'
+    put 0x700+24*17+6 '\0002\0377'
+    nm_lists '20 C 65282 common' 'a large common symbol of x86-64'
     # (a second table of symbols, a binding without a meaning, and a weak block)
-    dd if="$1" of="$folder/indices" bs=1 skip=$((0x1800 + 64 * 7)) seek=$table count=64 conv=notrunc 2> "$folder/output"
-    put $((0x700 + 24 * 16 + 4)) '\0120'
-    put $((0x700 + 24 * 12 + 4)) '\0045'
-    "$folder/nm" "$folder/indices" > "$folder/listed"
-    grep -qx '0*7654321 [?] 65535 absolute' "$folder/listed" || fail "nm.c gives a letter to an unknown binding: $(cat "$folder/listed")"
+    dd if="$1" of="$folder/copy" bs=1 skip=$((0x1800 + 64 * 7)) seek=$table count=64 conv=notrunc 2> "$folder/output"
+    put 0x700+24*16+4 '\0120' 0x700+24*12+4 '\0045'
+    nm_lists '7654321 [?] 65535 absolute' 'a symbol of an unknown binding with ?'
     [ "$(grep -c -e ' V 2 weak_data$' -e ' absolute$' "$folder/listed")" -eq 2 ] || fail "nm.c lists another table: $(cat "$folder/listed")"
     # (in an object file the address of a section counts; only of .gdb_index the whole name does)
     put $((table - 64 * 9 + 16)) '\0000\0020'
     for name in .gdb_index2 .gdb_index; do
-        put "$(grep -abo -e '\.debug_info' -e '\.gdb_index2' "$folder/indices" | head -n 1 | cut -d : -f 1)" "$name\\0000"
-        "$folder/nm" "$folder/indices" > "$folder/listed"
+        put "$(grep -abo -e '\.debug_info' -e '\.gdb_index2' "$folder/copy" | head -n 1 | cut -d : -f 1)" "$name\\0000"
         case $name in *2) letter=n ;; *) letter=N ;; esac
-        grep -qx "0*1012 T 1 function" "$folder/listed" || fail "nm.c does not add the address of a section: $(cat "$folder/listed")"
-        grep -qx "0* $letter 5 $name" "$folder/listed" || fail "nm.c does not know a section by its name: $(cat "$folder/listed")"
+        nm_lists '1012 T 1 function' 'a symbol with the address of its section'
+        nm_lists " $letter 5 $name" 'a section by its name'
     done
     # (the first byte of été, so that the name is not UTF-8: nm prints it as it stands)
-    put $((0x10ac)) '\0377'
-    "$folder/nm" "$folder/indices" > "$folder/listed"
-    grep -q "18 T 1 $(printf '\377\251')t" "$folder/listed" \
-        || fail "nm.c does not print a name that is not UTF-8: $(cat "$folder/listed")"
+    put 0x10ac '\0377'
+    nm_lists "1018 T 1 $(printf '\377\251')t.*" 'a name that is not UTF-8'
 }
 
 # Runs the programs over each file that made.c makes, and over its first bytes.
@@ -314,7 +313,7 @@ check_damaged() {
         set --
     fi
     build damaged -std=c99 "$@"
-    strictly cc -std=c99 -Ifaces/c -o "$folder/plain" faces/c/tests/damaged.c faces/c/tests/plain.c
+    strictly cc -std=c99 -Ifaces/c -DPLAIN -o "$folder/plain" faces/c/tests/damaged.c faces/c/tests/plain.c
     for file in checks/files/made/s390x_program checks/files/made/mips_program "$folder/nm" "$folder/made" "$files"; do
         if [ -d "$file" ]; then set -- "$file"/*; else set -- "$file"; fi
         quietly "$folder/plain" 1000 "$@"

@@ -1,13 +1,12 @@
 #!/bin/sh
 # Makes the files of checks/files/made and what binutils prints of each: sh checks/files/make.sh checks/files/made
 # Above that folder it makes symbols.listed; elf_constants, the constants of glibc's <elf.h> that goblin.h has too; relocation_names, readelf's
-# names of types of relocations by machines; mangled, some names of libstdc++ and what c++filt makes of them; warnings, those of gcc and clang
-# that -Wall, -Wextra and -pedantic turn on; lints, those of rustc, rustdoc and clippy that are on by default, and one more; and pyelftools,
-# sums of what pyelftools 0.29 reads, which needs the installed Python package on PYTHONPATH.
-# They were made on Debian 12 for x86-64 by clang and lld 14.0.6, binutils 2.40 with its linkers for powerpc and s390x, for x86_64_program
-# and warnings by gcc 12.2.0, and for lints by Rust 1.95.0: the packages clang, lld, llvm, gcc, g++, binutils, binutils-powerpc-linux-gnu,
-# binutils-s390x-linux-gnu and python3-pyelftools. Nothing in them is anybody else's but what gcc adds to each program. x86_64_core is not
-# made here: it is the first 512 bytes of the core of a program that crashed. No check runs this script. Run it from the repository's root.
+# names of types of relocations by machines; mangled, some names of libstdc++ and what c++filt makes of them; and pyelftools, sums of what
+# pyelftools 0.29 reads, which needs the installed Python package on PYTHONPATH.
+# They were made on Debian 12 for x86-64 by clang and lld 14.0.6, binutils 2.40 with its linkers for powerpc and s390x, and for x86_64_program
+# by gcc 12.2.0: the packages clang, lld, llvm, gcc, g++, binutils, binutils-powerpc-linux-gnu, binutils-s390x-linux-gnu and
+# python3-pyelftools. Nothing in them is anybody else's but what gcc adds to each program. x86_64_core is not made here: it is the first 512
+# bytes of the core of a program that crashed. No check runs this script. Run it from the repository's root.
 set -eu
 export LC_ALL=C
 to=$(cd "$1" && pwd)
@@ -63,7 +62,7 @@ link x86_64 -pie -e _start -dynamic-linker /lib/ld-made.so.1 -rpath /made/rpath 
 llvm-objcopy-14 --strip-sections whole x86_64_stripped
 objcopy --only-keep-debug whole x86_64_debug
 # A program as gcc makes it by default on Debian.
-gcc -Os -fstack-protector-strong -I. -o x86_64_program damaged.c plain.c
+gcc -Os -fstack-protector-strong -I. -DPLAIN -o x86_64_program damaged.c plain.c
 cp "$root/checks/files/made/x86_64_core" .
 
 for file in *_library *_object *_core *_stripped *_debug x86_64_program i386_program aarch64_program arm_program mips_program \
@@ -104,20 +103,6 @@ done > "$above/relocation_names"
     readelf -W --dyn-syms /usr/lib/x86_64-linux-gnu/libstdc++.so.6 | grep -o '_Z[^ @]*' | sort -u | awk 'NR % 32 == 0'; } > names
 c++filt -n < names > filtered
 paste names filtered > "$above/mangled"
-
-# As the compilers print them, and as flags. (Lints on other lints are left out, and the name of all that warn.)
-touch none.c none.cc
-{
-    for standard in c89 c99 c11 c++11; do
-        case $standard in c++*) source=none.cc ;; *) source=none.c ;; esac
-        gcc -std=$standard -Wall -Wextra -pedantic -O2 -Q --help=warnings $source 2> warnings | awk '
-            /^  -W/ && $2 !~ /disabled|available|ignored|^-W/ { sub(/[<[].*/, "", $1); print "[" $1 "]" }'
-    done
-    diagtool-14 show-enabled -Wall -Wextra -pedantic none.c | grep -o '\[-W.*\]'
-} | sort -u > "$above/warnings"
-{ clippy-driver -W help; rustdoc -W help; } 2> warnings | awk '
-    $2 == "warn" || $2 == "deny" || $1 == "clippy::missing-errors-doc" { gsub(/-/, "_", $1); print "-D" $1 }' \
-    | grep -v -x -e -Dwarnings -e -Dunknown_lints -e -Drenamed_and_removed_lints | sort -u > "$above/lints"
 
 cd "$root"
 find "$to" -type f ! -name '*.listed' | sort | xargs /usr/bin/python3 faces/python/tests/beside_pyelftools.py --sums > "$above/pyelftools"

@@ -14,19 +14,17 @@ static goblin_refusal_t why;
 /* Reads a file into memory of malloc. Returns whether all of it is read. */
 static inline bool load(const char *path) {
     FILE *stream = fopen(path, "rb");
-    /* (a folder can be opened, and has a size, but its first byte can't be read) */
-    bool is_read = stream && (getc(stream) != EOF || feof(stream));
-    long size = is_read && fseek(stream, 0, SEEK_END) == 0 ? ftell(stream) : -1;
-    bytes = size < 0 ? NULL : (uint8_t *)malloc((size_t)size + 1);
-    if (!bytes) {
-        int reason = errno;
-        if (stream) fclose(stream);
-        return errno = reason, false;
+    bytes = NULL, len = 0;
+    for (size_t room = 1 << 16; stream; room *= 2) {
+        uint8_t *more = (uint8_t *)realloc(bytes, room);
+        if (!more) break;
+        len += fread((bytes = more) + len, 1, room - len, stream);
+        if (len == room) continue;
+        int reason = ferror(stream) ? errno : 0; /* (a folder can be opened, and not read) */
+        return fclose(stream) == 0 && (errno = reason) == 0;
     }
-    rewind(stream);
-    len = fread(bytes, 1, (size_t)size, stream);
-    is_read = !ferror(stream);
-    return fclose(stream) == 0 && is_read;
+    if (stream) fclose(stream), errno = ENOMEM;
+    return false;
 }
 
 /* Reads the header of the file, and finds the first program header of a type, and its index. */

@@ -13,8 +13,7 @@ int main(int argc, char **argv) {
     uint32_t status = goblin_file(bytes, len, &file, &why);
     if (status == GOBLIN_OK) status = goblin_names_section(&file, &names, &why);
     if (status == GOBLIN_OK)
-        status = goblin_section_by_name(&file, &names.file, name, strlen(name), 0,
-                                        &index, &section, &why);
+        status = goblin_section_by_name(&file, &names.file, name, strlen(name), 0, &index, &section, &why);
     if (status == GOBLIN_END) return fprintf(stderr, "flag: there is no section %s\n", name), 1;
     if (status != GOBLIN_OK) return print_refusal("flag");
     uint64_t before = section.sh_flags;

@@ -293,15 +293,15 @@ static void whole(void) {
     goblin_whole_header(&file, &w);
     printf("goblin_whole_header");
     PUT(header, w.header);
+#define FIRST_OF(call, kind, item) \
+    for (uint64_t i = 0; i < count && i < WHOLE; i++) SHOW(call, kind, item, &w, i); \
+    SHOW(call, kind, item, &w, count); \
+    SHOW(call, kind, item, &w, UINT64_MAX)
     if (!SHOW(goblin_section_count, number, count, &w)) return;
-    for (uint64_t i = 0; i < count && i < WHOLE; i++) SHOW(goblin_section, section, section, &w, i);
-    SHOW(goblin_section, section, section, &w, count);
-    SHOW(goblin_section, section, section, &w, UINT64_MAX);
+    FIRST_OF(goblin_section, section, section);
     put_strings("goblin_names_section", goblin_names_section(&w, &section, &why), &section, &strings);
     if (!SHOW(goblin_segment_count, number, count, &w)) return;
-    for (uint64_t i = 0; i < count && i < WHOLE; i++) SHOW(goblin_segment, segment, segment, &w, i);
-    SHOW(goblin_segment, segment, segment, &w, count);
-    SHOW(goblin_segment, segment, segment, &w, UINT64_MAX);
+    FIRST_OF(goblin_segment, segment, segment);
 }
 
 /* Writes the header and numbers. */

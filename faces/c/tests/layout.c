@@ -67,21 +67,21 @@ static uint64_t any(size_t width) {
     for (size_t i = 0; i < width; i++) value = value << 8 | (last = (uint8_t)(last % 250 + 3));
     return put(width, value);
 }
-static uint32_t any_4(void) { return (uint32_t)any(4); }
-static uint16_t any_2(void) { return (uint16_t)any(2); }
-static uint8_t any_1(void) { return (uint8_t)any(1); }
+#define ANY1(x) ((x) = (uint8_t)any(1))
+#define ANY2(x) ((x) = (uint16_t)any(2))
+#define ANY4(x) ((x) = (uint32_t)any(4))
+#define ANY(x) ((x) = any(wide))
 
 static void header(goblin_header_t *h) {
     memset(file, 0xee, sizeof file);
     memcpy(file, "\177ELF", 4);
     end = 4;
     h->ei_class = (uint8_t)put(1, wide / 4), h->ei_data = (uint8_t)put(1, is_big ? 2 : 1);
-    h->ei_version = any_1(), h->ei_osabi = any_1(), h->ei_abiversion = any_1();
+    ANY1(h->ei_version), ANY1(h->ei_osabi), ANY1(h->ei_abiversion);
     end = 16;
-    h->e_type = any_2(), h->e_machine = any_2(), h->e_version = any_4();
-    h->e_entry = any(wide), h->e_phoff = put(wide, SEGMENTS), h->e_shoff = put(wide, SECTIONS);
-    h->e_flags = any_4(), h->e_ehsize = any_2(), h->e_phentsize = any_2();
-    h->e_phnum = (uint16_t)put(2, 2), h->e_shentsize = any_2(), h->e_shnum = (uint16_t)put(2, 3);
+    ANY2(h->e_type), ANY2(h->e_machine), ANY4(h->e_version), ANY(h->e_entry), h->e_phoff = put(wide, SEGMENTS);
+    h->e_shoff = put(wide, SECTIONS), ANY4(h->e_flags), ANY2(h->e_ehsize), ANY2(h->e_phentsize);
+    h->e_phnum = (uint16_t)put(2, 2), ANY2(h->e_shentsize), h->e_shnum = (uint16_t)put(2, 3);
     h->e_shstrndx = (uint16_t)put(2, 1);
 }
 
@@ -92,21 +92,19 @@ static void records(void) {
     goblin_symbol_t *y = &wanted.symbol;
     goblin_reloc_t *r = &wanted.reloc;
     end = SEGMENTS + by_class(56, 32);
-    p->p_type = any_4();
-    if (wide == 8) p->p_flags = any_4();
-    p->file.offset = any(wide), p->p_vaddr = any(wide), p->p_paddr = any(wide);
-    p->file.size = any(wide), p->p_memsz = any(wide);
-    if (wide == 4) p->p_flags = any_4();
-    p->p_align = any(wide);
+    ANY4(p->p_type);
+    if (wide == 8) ANY4(p->p_flags);
+    ANY(p->file.offset), ANY(p->p_vaddr), ANY(p->p_paddr), ANY(p->file.size), ANY(p->p_memsz);
+    if (wide == 4) ANY4(p->p_flags);
+    ANY(p->p_align);
     end = SECTIONS + by_class(64, 40);
-    s->sh_name = any_4(), s->sh_type = any_4(), s->sh_flags = any(wide), s->sh_addr = any(wide);
-    s->file.offset = any(wide), s->file.size = any(wide), s->sh_link = any_4(), s->sh_info = any_4();
-    s->sh_addralign = any(wide), s->sh_entsize = any(wide);
+    ANY4(s->sh_name), ANY4(s->sh_type), ANY(s->sh_flags), ANY(s->sh_addr), ANY(s->file.offset), ANY(s->file.size);
+    ANY4(s->sh_link), ANY4(s->sh_info), ANY(s->sh_addralign), ANY(s->sh_entsize);
     end = SYMBOLS + by_class(24, 16);
-    y->st_name = any_4();
-    if (wide == 4) y->st_value = any(4), y->st_size = any(4);
-    y->st_info = any_1(), y->st_other = any_1(), y->st_shndx = any_2();
-    if (wide == 8) y->st_value = any(8), y->st_size = any(8);
+    ANY4(y->st_name);
+    if (wide == 4) ANY(y->st_value), ANY(y->st_size);
+    ANY1(y->st_info), ANY1(y->st_other), ANY2(y->st_shndx);
+    if (wide == 8) ANY(y->st_value), ANY(y->st_size);
     end = RELOCS + 3 * wide;
     r->r_offset = any(wide);
     uint64_t info = any(wide), addend = any(wide);
@@ -117,7 +115,7 @@ static void records(void) {
 /* Writes a note. Its name has seven bytes and a zero byte, its descriptor five and three of padding. */
 static void note(goblin_note_t *n) {
     end = NOTES;
-    put(4, 8), n->desc.size = put(4, 5), n->n_type = any_4();
+    put(4, 8), n->desc.size = put(4, 5), ANY4(n->n_type);
     memcpy(file + end, "goblins", 8);
     n->name.offset = end, n->name.size = 7, n->desc.offset = end + 8, n->next = end + 16;
 }

@@ -1,6 +1,6 @@
 /* The calls of goblin.h in plain C, written from its comments alone and not proved: checks/faces/c.sh compares what
-   damaged.c finds with it and with the library. Those for the library itself are left out, and names of numbers: each
-   is "?". It needs no C library. */
+   damaged.c finds with it and with the library. Those for the library itself are left out, and names of numbers. It
+   needs no C library. */
 #include "goblin.h"
 
 enum { NOTE_SIZE = 12 };
@@ -20,11 +20,12 @@ static void put(uint8_t *at, unsigned width, bool is_big, uint64_t value) {
 static bool is_64(const goblin_header_t *h) { return h->ei_class == GOBLIN_ELFCLASS64; }
 static bool is_big(const goblin_header_t *h) { return h->ei_data == GOBLIN_ELFDATA2MSB; }
 
+static uint32_t refuse_item(goblin_refusal_t *why, uint32_t kind, uint32_t item, uint64_t first, uint64_t offset) {
+    goblin_refusal_t refusal = {kind, item, first, 0, 0, 0, offset};
+    return *why = refusal, kind;
+}
 static uint32_t refuse(goblin_refusal_t *why, uint32_t kind, uint64_t first, uint64_t second, uint64_t offset) {
-    goblin_refusal_t refusal = {0, 0, 0, 0, 0, 0, 0};
-    refusal.kind = kind, refusal.first = first, refusal.second = second, refusal.offset = offset;
-    *why = refusal;
-    return kind;
+    return refuse_item(why, kind, 0, first, offset), why->second = second, kind;
 }
 
 /* Tests whether some bytes at an offset are inside the first `end` ones. `from` is where the refused thing begins. */
@@ -67,41 +68,39 @@ static uint64_t field(cursor_t *c, unsigned width, uint64_t value) {
 }
 static uint64_t wide(cursor_t *c, uint64_t value) { return field(c, c->is_64 ? 8 : 4, value); }
 
+/* The next field of a record, by its width. */
+#define F1(x) ((x) = (uint8_t)field(c, 1, x))
+#define F2(x) ((x) = (uint16_t)field(c, 2, x))
+#define F4(x) ((x) = (uint32_t)field(c, 4, x))
+#define WIDE(x) ((x) = wide(c, x))
+
 static void each_of_header(cursor_t *c, goblin_header_t *h) {
-    h->e_type = (uint16_t)field(c, 2, h->e_type), h->e_machine = (uint16_t)field(c, 2, h->e_machine);
-    h->e_version = (uint32_t)field(c, 4, h->e_version), h->e_entry = wide(c, h->e_entry),
-        h->e_phoff = wide(c, h->e_phoff);
-    h->e_shoff = wide(c, h->e_shoff), h->e_flags = (uint32_t)field(c, 4, h->e_flags),
-        h->e_ehsize = (uint16_t)field(c, 2, h->e_ehsize);
-    h->e_phentsize = (uint16_t)field(c, 2, h->e_phentsize), h->e_phnum = (uint16_t)field(c, 2, h->e_phnum);
-    h->e_shentsize = (uint16_t)field(c, 2, h->e_shentsize), h->e_shnum = (uint16_t)field(c, 2, h->e_shnum);
-    h->e_shstrndx = (uint16_t)field(c, 2, h->e_shstrndx);
+    F2(h->e_type), F2(h->e_machine), F4(h->e_version), WIDE(h->e_entry), WIDE(h->e_phoff), WIDE(h->e_shoff);
+    F4(h->e_flags), F2(h->e_ehsize), F2(h->e_phentsize), F2(h->e_phnum), F2(h->e_shentsize), F2(h->e_shnum);
+    F2(h->e_shstrndx);
 }
 
 static void each_of_section(cursor_t *c, goblin_section_t *s) {
-    s->sh_name = (uint32_t)field(c, 4, s->sh_name), s->sh_type = (uint32_t)field(c, 4, s->sh_type),
-        s->sh_flags = wide(c, s->sh_flags);
-    s->sh_addr = wide(c, s->sh_addr), s->file.offset = wide(c, s->file.offset), s->file.size = wide(c, s->file.size);
-    s->sh_link = (uint32_t)field(c, 4, s->sh_link), s->sh_info = (uint32_t)field(c, 4, s->sh_info);
-    s->sh_addralign = wide(c, s->sh_addralign), s->sh_entsize = wide(c, s->sh_entsize);
+    F4(s->sh_name), F4(s->sh_type), WIDE(s->sh_flags), WIDE(s->sh_addr), WIDE(s->file.offset), WIDE(s->file.size);
+    F4(s->sh_link), F4(s->sh_info), WIDE(s->sh_addralign), WIDE(s->sh_entsize);
 }
 
 static void each_of_segment(cursor_t *c, goblin_segment_t *p) {
-    p->p_type = (uint32_t)field(c, 4, p->p_type);
-    if (c->is_64) p->p_flags = (uint32_t)field(c, 4, p->p_flags);
-    p->file.offset = wide(c, p->file.offset), p->p_vaddr = wide(c, p->p_vaddr), p->p_paddr = wide(c, p->p_paddr);
-    p->file.size = wide(c, p->file.size), p->p_memsz = wide(c, p->p_memsz);
-    if (!c->is_64) p->p_flags = (uint32_t)field(c, 4, p->p_flags);
-    p->p_align = wide(c, p->p_align);
+    F4(p->p_type);
+    if (c->is_64) F4(p->p_flags);
+    WIDE(p->file.offset), WIDE(p->p_vaddr), WIDE(p->p_paddr), WIDE(p->file.size), WIDE(p->p_memsz);
+    if (!c->is_64) F4(p->p_flags);
+    WIDE(p->p_align);
 }
 
 static void each_of_symbol(cursor_t *c, goblin_symbol_t *s) {
-    s->st_name = (uint32_t)field(c, 4, s->st_name);
-    if (!c->is_64) s->st_value = field(c, 4, s->st_value), s->st_size = field(c, 4, s->st_size);
-    s->st_info = (uint8_t)field(c, 1, s->st_info), s->st_other = (uint8_t)field(c, 1, s->st_other);
-    s->st_shndx = (uint16_t)field(c, 2, s->st_shndx);
-    if (c->is_64) s->st_value = field(c, 8, s->st_value), s->st_size = field(c, 8, s->st_size);
+    F4(s->st_name);
+    if (!c->is_64) WIDE(s->st_value), WIDE(s->st_size);
+    F1(s->st_info), F1(s->st_other), F2(s->st_shndx);
+    if (c->is_64) WIDE(s->st_value), WIDE(s->st_size);
 }
+
+static void each_of_entry(cursor_t *c, goblin_dyn_t *d) { WIDE(d->d_tag), WIDE(d->d_val); }
 
 static uint64_t reversed(uint64_t type) {
     return type >> 24 | (type >> 8 & 0xff00) | (type << 8 & 0xff0000) | (type << 24 & 0xff000000);
@@ -113,7 +112,7 @@ static void each_of_reloc(cursor_t *c, const goblin_header_t *h, bool is_rela, g
     bool is_pair = h->e_machine == GOBLIN_EM_MIPS && c->is_64 && !c->is_big;
     uint64_t sym = r->r_sym, info = !c->is_64 ? sym << 8 | r->r_type : is_pair ? reversed(r->r_type) << 32 | sym
         : sym << 32 | r->r_type;
-    r->r_offset = wide(c, r->r_offset);
+    WIDE(r->r_offset);
     if (!c->at) note(c, c->is_64 || !(sym >> 24), sym);
     if (!c->at) note(c, c->is_64 || !(r->r_type >> 8), r->r_type);
     info = c->is_64 ? field(c, 8, info) : field(c, 4, info & 0xffffffff);
@@ -128,22 +127,21 @@ static void each_of_reloc(cursor_t *c, const goblin_header_t *h, bool is_rela, g
     r->r_addend = c->is_64 ? (int64_t)addend : (int32_t)addend;
 }
 
-static void each_of_entry(cursor_t *c, goblin_dyn_t *d) { d->d_tag = wide(c, d->d_tag), d->d_val = wide(c, d->d_val); }
-
-/* Writes a record at an offset by one of these functions, if it fits and the call that reads it returned GOBLIN_OK.
-   `own` is a copy of the caller's. */
-#define WRITE(status, each, bytes, h, offset, own, why, ...) \
-    do { \
+/* The body of a call that writes a record: `read` is the status of the call that reads it, `each` one of the functions
+   above over the cursor `c` and the copy `own` of the caller's record. */
+#define PUT(type, record, place, read, each) \
+    { \
+        goblin_file_t file = {bytes, len, *h}; \
+        type unread, own = *(record); \
         cursor_t c = cursor(NULL, h); \
+        uint32_t status = ((void)file, (void)unread, read); \
         if (status) return status; \
-        each(&c, __VA_ARGS__ &(own)); \
-        if (!c.fits) refuse(why, GOBLIN_REFUSED_INTEGER_FIT, c.misfit, 0, (offset) + c.misfit_at); \
-        if (!c.fits) return (why)->item = c.what, (why)->kind; \
-        c.out = (bytes) + (offset); \
-        each(&c, __VA_ARGS__ &(own)); \
+        each; \
+        if (!c.fits) return refuse_item(why, GOBLIN_REFUSED_INTEGER_FIT, c.what, c.misfit, (place) + c.misfit_at); \
+        c.out = bytes + (place); \
+        each; \
         return GOBLIN_OK; \
-    } while (0)
-#define NOTHING
+    }
 
 /* The body of a call that fills an array by the call for one item. */
 #define PLURAL(type, one, ...) \
@@ -209,11 +207,7 @@ static uint64_t whole(size_t len, uint64_t start, uint64_t size) { return start 
 /* Tests whether a number of headers is inside the file. */
 static uint32_t list(size_t len, uint64_t start, uint64_t size, uint64_t number, uint32_t item, goblin_refusal_t *why) {
     uint64_t in_file = whole(len, start, size);
-    if (number > len / size) {
-        refuse(why, GOBLIN_REFUSED_BUFFER_TOO_SHORT, number, 0, start);
-        why->item = item;
-        return GOBLIN_REFUSED_BUFFER_TOO_SHORT;
-    }
+    if (number > len / size) return refuse_item(why, GOBLIN_REFUSED_BUFFER_TOO_SHORT, item, number, start);
     return number <= in_file ? (uint32_t)GOBLIN_OK : inside(len, start + in_file * size, size, start, why);
 }
 
@@ -272,12 +266,9 @@ uint32_t goblin_section(const goblin_file_t *file, uint64_t index, goblin_sectio
 }
 
 uint32_t goblin_put_section(uint8_t *bytes, size_t len, const goblin_header_t *h, uint64_t index,
-                            const goblin_section_t *section, goblin_refusal_t *why) {
-    goblin_file_t file = {bytes, len, *h};
-    goblin_section_t unread, s = *section;
-    uint32_t status = goblin_section(&file, index, &unread, why);
-    WRITE(status, each_of_section, bytes, h, h->e_shoff + index * section_size(h), s, why, NOTHING);
-}
+                            const goblin_section_t *section, goblin_refusal_t *why)
+    PUT(goblin_section_t, section, h->e_shoff + index * section_size(h), goblin_section(&file, index, &unread, why),
+        each_of_section(&c, &own))
 
 uint32_t goblin_sections(const goblin_file_t *file, uint64_t first, goblin_section_t *items, size_t capacity,
                          uint64_t *filled, goblin_refusal_t *why) PLURAL(goblin_section_t, goblin_section, file)
@@ -336,11 +327,9 @@ uint32_t goblin_string_utf8(const goblin_file_t *file, const goblin_range_t *str
     goblin_range_t found;
     uint32_t status = goblin_string(file, strings, offset, &found, why);
     if (status) return status;
-    if (!is_utf8(file->bytes + found.offset, found.size)) {
-        refuse(why, GOBLIN_REFUSED_BAD_INPUT, strings->size - offset, 0, found.offset);
-        why->item = GOBLIN_ITEM_INVALID_UTF8;
-        return GOBLIN_REFUSED_BAD_INPUT;
-    }
+    if (!is_utf8(file->bytes + found.offset, found.size))
+        return refuse_item(why, GOBLIN_REFUSED_BAD_INPUT, GOBLIN_ITEM_INVALID_UTF8, strings->size - offset,
+                           found.offset);
     *string = found;
     return GOBLIN_OK;
 }
@@ -460,12 +449,9 @@ uint32_t goblin_segments(const goblin_file_t *file, uint64_t first, goblin_segme
                          uint64_t *filled, goblin_refusal_t *why) PLURAL(goblin_segment_t, goblin_segment, file)
 
 uint32_t goblin_put_segment(uint8_t *bytes, size_t len, const goblin_header_t *h, uint64_t index,
-                            const goblin_segment_t *segment, goblin_refusal_t *why) {
-    goblin_file_t file = {bytes, len, *h};
-    goblin_segment_t unread, p = *segment;
-    uint32_t status = goblin_segment(&file, index, &unread, why);
-    WRITE(status, each_of_segment, bytes, h, h->e_phoff + index * segment_size(h), p, why, NOTHING);
-}
+                            const goblin_segment_t *segment, goblin_refusal_t *why)
+    PUT(goblin_segment_t, segment, h->e_phoff + index * segment_size(h), goblin_segment(&file, index, &unread, why),
+        each_of_segment(&c, &own))
 
 /* Finds the offset of the byte that is loaded at an address, in the file or not. */
 static uint32_t loaded(const goblin_file_t *file, uint64_t address, uint64_t *offset, goblin_refusal_t *why) {
@@ -515,12 +501,9 @@ uint32_t goblin_symbol(const goblin_file_t *file, const goblin_range_t *table, u
 }
 
 uint32_t goblin_put_symbol(uint8_t *bytes, size_t len, const goblin_header_t *h, const goblin_range_t *table,
-                           uint64_t index, const goblin_symbol_t *symbol, goblin_refusal_t *why) {
-    goblin_file_t file = {bytes, len, *h};
-    goblin_symbol_t unread, s = *symbol;
-    uint32_t status = goblin_symbol(&file, table, index, &unread, why);
-    WRITE(status, each_of_symbol, bytes, h, table->offset + index * symbol_size(h), s, why, NOTHING);
-}
+                           uint64_t index, const goblin_symbol_t *symbol, goblin_refusal_t *why)
+    PUT(goblin_symbol_t, symbol, table->offset + index * symbol_size(h),
+        goblin_symbol(&file, table, index, &unread, why), each_of_symbol(&c, &own))
 
 uint32_t goblin_symbols(const goblin_file_t *file, const goblin_range_t *table, uint64_t first, goblin_symbol_t *items,
                         size_t capacity, uint64_t *filled, goblin_refusal_t *why)
@@ -600,12 +583,9 @@ uint32_t goblin_reloc(const goblin_file_t *file, const goblin_range_t *table, bo
 }
 
 uint32_t goblin_put_reloc(uint8_t *bytes, size_t len, const goblin_header_t *h, const goblin_range_t *table,
-                          bool is_rela, uint64_t index, const goblin_reloc_t *reloc, goblin_refusal_t *why) {
-    goblin_file_t file = {bytes, len, *h};
-    goblin_reloc_t unread, r = *reloc;
-    uint32_t status = goblin_reloc(&file, table, is_rela, index, &unread, why);
-    WRITE(status, each_of_reloc, bytes, h, table->offset + index * reloc_size(h, is_rela), r, why, h, is_rela,);
-}
+                          bool is_rela, uint64_t index, const goblin_reloc_t *reloc, goblin_refusal_t *why)
+    PUT(goblin_reloc_t, reloc, table->offset + index * reloc_size(h, is_rela),
+        goblin_reloc(&file, table, is_rela, index, &unread, why), each_of_reloc(&c, h, is_rela, &own))
 
 uint32_t goblin_relocs(const goblin_file_t *file, const goblin_range_t *table, bool is_rela, uint64_t first,
                        goblin_reloc_t *items, size_t capacity, uint64_t *filled, goblin_refusal_t *why)
@@ -635,11 +615,8 @@ static uint32_t read_note(const uint8_t *bytes, uint64_t end, const goblin_heade
     uint64_t at = aligned(NOTE_SIZE + name, alignment), name_size = name ? name - 1 : 0;
     if ((status = inside(left, NOTE_SIZE, is_whole ? name : name_size, offset, why)))
         return why->item = is_whole ? GOBLIN_ITEM_NOTE_NAME : 0, status;
-    if (is_text && !is_utf8(bytes + offset + NOTE_SIZE, name_size)) {
-        refuse(why, GOBLIN_REFUSED_BAD_INPUT, left - NOTE_SIZE, 0, offset);
-        why->item = GOBLIN_ITEM_INVALID_UTF8;
-        return GOBLIN_REFUSED_BAD_INPUT;
-    }
+    if (is_text && !is_utf8(bytes + offset + NOTE_SIZE, name_size))
+        return refuse_item(why, GOBLIN_REFUSED_BAD_INPUT, GOBLIN_ITEM_INVALID_UTF8, left - NOTE_SIZE, offset);
     if ((status = inside(left, at, desc, offset, why)))
         return why->item = is_whole ? GOBLIN_ITEM_NOTE_DESC : 0, status;
     note->n_type = (uint32_t)get(bytes + offset + 8, 4, is_big(h));
@@ -745,14 +722,16 @@ uint32_t goblin_dynamic_value(const goblin_file_t *file, const goblin_range_t *d
     return status ? status : (uint32_t)GOBLIN_END;
 }
 
-uint32_t goblin_put_dynamic_entry(uint8_t *bytes, size_t len, const goblin_header_t *h, const goblin_range_t *dynamic,
-                                  uint64_t index, const goblin_dyn_t *entry, goblin_refusal_t *why) {
-    goblin_dyn_t d = *entry;
-    uint64_t size = GOBLIN_SIZEOF_DYN(h);
-    uint32_t status = inside(len, dynamic->offset, dynamic->size, dynamic->offset, why);
-    if (!status && index >= dynamic->size / size) status = GOBLIN_END;
-    WRITE(status, each_of_entry, bytes, h, dynamic->offset + index * size, d, why, NOTHING);
+static uint32_t entry_inside(const goblin_file_t *file, const goblin_range_t *dynamic, uint64_t index,
+                             goblin_refusal_t *why) {
+    uint32_t status = inside(file->len, dynamic->offset, dynamic->size, dynamic->offset, why);
+    return !status && index >= dynamic->size / GOBLIN_SIZEOF_DYN(&file->header) ? (uint32_t)GOBLIN_END : status;
 }
+
+uint32_t goblin_put_dynamic_entry(uint8_t *bytes, size_t len, const goblin_header_t *h, const goblin_range_t *dynamic,
+                                  uint64_t index, const goblin_dyn_t *entry, goblin_refusal_t *why)
+    PUT(goblin_dyn_t, entry, dynamic->offset + index * GOBLIN_SIZEOF_DYN(h), entry_inside(&file, dynamic, index, why),
+        each_of_entry(&c, &own))
 
 uint32_t goblin_dynamic_strings(const goblin_file_t *file, const goblin_range_t *dynamic, goblin_range_t *strings,
                                 goblin_refusal_t *why) {
@@ -876,25 +855,4 @@ uint64_t goblin_refusal_to_str(const goblin_refusal_t *why, void *text, size_t c
     if (format) write(&out, format, why);
     if (out.size < capacity) out.text[out.size] = 0;
     return out.size;
-}
-
-static uint64_t no_name(void *text, size_t capacity) {
-    out_t out = {(uint8_t *)text, capacity, 0};
-    sign(&out, '?');
-    if (capacity > 1) out.text[1] = 0;
-    return out.size;
-}
-#define NAME(call, type) \
-    uint64_t call(type number, void *text, size_t capacity) { return (void)number, no_name(text, capacity); }
-NAME(goblin_class_to_str, uint8_t)
-NAME(goblin_et_to_str, uint16_t)
-NAME(goblin_machine_to_str, uint16_t)
-NAME(goblin_pt_to_str, uint32_t)
-NAME(goblin_sht_to_str, uint32_t)
-NAME(goblin_shf_to_str, uint64_t)
-NAME(goblin_bind_to_str, uint8_t)
-NAME(goblin_type_to_str, uint8_t)
-NAME(goblin_visibility_to_str, uint8_t)
-uint64_t goblin_note_type_to_str(const void *name, size_t name_len, uint32_t n_type, void *text, size_t capacity) {
-    return (void)name, (void)name_len, (void)n_type, no_name(text, capacity);
 }

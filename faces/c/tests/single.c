@@ -49,8 +49,7 @@ static void count_strings(goblin_range_t strings, const uint64_t *offsets, uint6
         if (name) same[1] += goblin_string_starts(&file, &strings, offsets[i], other, size);
         same[2] += plain_is(strings, offsets[i], other, size);
     }
-    while (found < count
-           && !goblin_strings(&file, &strings, offsets + found, count - found, ranges, 64, &filled, &why))
+    while (found < count && !goblin_strings(&file, &strings, offsets + found, count - found, ranges, 64, &filled, &why))
         found += filled;
     is_right &= found == count && same[0] == same[2] && same[0] == (name ? 1 : count) && same[1] == (name ? 1 : 0);
     counted("plain_is", count), counted("goblin_string", count), counted("goblin_strings", count);
@@ -92,8 +91,7 @@ static void count_calls(void) {
         sums[3] += goblin_string_utf8(&file, &names.file, 1, &name, &why) == GOBLIN_OK;
         if (!goblin_symbol_by_address(&file, &table.file, file.header.e_entry, &index, &why)) sums[4] += symbols;
     }
-    for (uint64_t i = 0; i < file.header.e_shnum; i++)
-        sums[5] += goblin_section(&file, i, &section, &why) == GOBLIN_OK;
+    for (uint64_t i = 0; i < file.header.e_shnum; i++) sums[5] += goblin_section(&file, i, &section, &why) == GOBLIN_OK;
     for (uint64_t i = 0; i < symbols && i < MOST && !goblin_symbol(&file, &table.file, i, &symbol, &why); i++)
         offsets[count++] = symbol.st_name;
     for (uint64_t i = 0; i < relas.file.size / GOBLIN_SIZEOF_RELA64; i++)
