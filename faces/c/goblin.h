@@ -52,6 +52,7 @@
        symbols, relocations, strings, entries, a number in a range: the range that is passed
        a symbol by its address        the symbols, and all section headers
        a note                         the note; of goblin_note_whole as much of it as is in the range
+       a build ID                     all program headers and section headers, and the notes before it
        a range of bytes               the range
        the dynamic section            the program headers, or without those the section headers, and the range
      So a caller may read parts into buffers of its own: goblin_file over the file's start, and for each other part a
@@ -605,6 +606,17 @@ uint32_t goblin_note_utf8(const goblin_file_t *file, const goblin_range_t *notes
 uint32_t goblin_note_whole(const goblin_file_t *file, const goblin_range_t *notes, uint64_t alignment, uint64_t offset,
     goblin_note_t *note, goblin_refusal_t *why) GOBLIN_STATUS((1, 2, 5, 6));
 
+/* Finds the build ID of a file: the range of the descriptor of the first note of type GOBLIN_NT_GNU_BUILD_ID whose name
+   is GNU, 4 bytes with its zero byte. It reads the notes of each segment of type GOBLIN_PT_NOTE, in their order, and
+   then those of each section of type GOBLIN_SHT_NOTE, as goblin_note_whole does. It reads at most the first 65,536
+   notes. GOBLIN_END if none of them is a build ID.
+   Refused as goblin_segment_count is. Then at the first note that goblin_note_whole refuses, and if no segment has a
+   build ID as goblin_section_count is.
+   Example: if (goblin_build_id(&file, &range, &why) == GOBLIN_OK)
+                for (uint64_t i = 0; i < range.size; i++) printf("%02x", file.bytes[range.offset + i]); */
+uint32_t goblin_build_id(const goblin_file_t *file, goblin_range_t *desc, goblin_refusal_t *why)
+    GOBLIN_STATUS((1, 2, 3));
+
 /* ---- the dynamic section ----
 
    It says what a program needs of the loader: libraries, search paths, and where tables are.
@@ -846,10 +858,11 @@ uint64_t goblin_visibility_to_str(uint8_t visibility, void *text, size_t capacit
    Example: goblin_note_type_to_str(GOBLIN_LITERAL("GNU"), note.n_type, text, sizeof text); */
 uint64_t goblin_note_type_to_str(const void *name, size_t name_len, uint32_t n_type, void *text, size_t capacity);
 /* Writes the text of a refusal in the library's words, such as "type is too big (64) for 52": 64 bytes are needed, and
-   52 are left. For GOBLIN_REFUSED_INTEGER_FIT print the number (`first`) and `offset`, too, and for goblin_note_whole
-   the part (`item`), since the text has no words for them. The text depends on `*why` alone, which a caller may fill
-   itself: a `fourth` that means yes or no is yes unless it is 0; an `item` that is none of GOBLIN_ITEM_INVALID_UTF8 and
-   the like has the empty name; a `kind` that is no refusal has the empty text.
+   52 are left. The text of GOBLIN_REFUSED_INTEGER_FIT ends with the number and the offset of its field, such as
+   ": 4294967296 at offset 24". For goblin_note_whole print the part (`item`), too, since the text has no words for it.
+   The text depends on `*why` alone, which a caller may fill itself: a `fourth` that means yes or no is yes unless it is
+   0; an `item` that is none of GOBLIN_ITEM_INVALID_UTF8 and the like has the empty name; a `kind` that is no refusal
+   has the empty text.
    Example: goblin_refusal_to_str(&why, text, sizeof text); */
 uint64_t goblin_refusal_to_str(const goblin_refusal_t *why, void *text, size_t capacity) GOBLIN_GIVEN((1));
 

@@ -652,6 +652,35 @@ uint32_t goblin_note_whole(const goblin_file_t *file, const goblin_range_t *note
                      why);
 }
 
+/* Reads the notes of a range up to a build ID, of which so many may be read. Returns whether the search ends here. */
+static bool ends_search(const goblin_file_t *file, goblin_range_t notes, uint64_t alignment, uint64_t *left,
+                        goblin_range_t *desc, uint32_t *status, goblin_refusal_t *why) {
+    goblin_note_t n;
+    for (n.next = notes.offset; *left > 0 && !is_past(&notes, n.next); *left -= 1) {
+        if ((*status = goblin_note_whole(file, &notes, alignment, n.next, &n, why))) return true;
+        if (n.n_type == 3 && n.name.size == 3 && get(file->bytes + n.name.offset, 4, true) == 0x474e5500)
+            return *desc = n.desc, true;
+    }
+    return false;
+}
+
+uint32_t goblin_build_id(const goblin_file_t *file, goblin_range_t *desc, goblin_refusal_t *why) {
+    uint64_t count, left = 65536;
+    goblin_segment_t p;
+    goblin_section_t s;
+    uint32_t status = goblin_segment_count(file, &count, why);
+    for (uint64_t i = 0; !status && i < count; i++)
+        if (!goblin_segment(file, i, &p, why) && p.p_type == GOBLIN_PT_NOTE
+            && ends_search(file, p.file, p.p_align, &left, desc, &status, why))
+            return status;
+    if (!status) status = goblin_section_count(file, &count, why);
+    for (uint64_t i = 0; !status && i < count; i++)
+        if (!goblin_section(file, i, &s, why) && s.sh_type == GOBLIN_SHT_NOTE
+            && ends_search(file, s.file, s.sh_addralign, &left, desc, &status, why))
+            return status;
+    return status ? status : (uint32_t)GOBLIN_END;
+}
+
 /* ---- the dynamic section ---- */
 
 /* Finds the first section of type GOBLIN_SHT_DYNAMIC in a file without segments, and sets `*is_by_sections`. */
@@ -824,7 +853,7 @@ static void number(out_t *out, uint64_t value, unsigned base) {
     sign(out, "0123456789abcdef"[value % base]);
 }
 
-/* Writes a format, in which %d and %x stand for the next number, and %s for the item. */
+/* Writes a format, in which %d and %x stand for the next number, %s for the item, and %o for the offset. */
 static void write(out_t *out, const char *format, const goblin_refusal_t *why) {
     static const char *const items[] = {"", "invalid utf8", "section headers", "program headers"};
     const uint64_t numbers[] = {why->first, why->second, why->third};
@@ -832,6 +861,7 @@ static void write(out_t *out, const char *format, const goblin_refusal_t *why) {
         if (*format != '%') sign(out, *format);
         else if (*++format == 's') word(out, why->item < 4 ? items[why->item] : "");
         else if (*format == 'b') word(out, why->fourth ? "true" : "false");
+        else if (*format == 'o') number(out, why->offset, 10);
         else number(out, numbers[next++], *format == 'd' ? 10 : 16);
     }
 }
@@ -848,7 +878,7 @@ uint64_t goblin_refusal_to_str(const goblin_refusal_t *why, void *text, size_t c
         "Strtable size (%d) + offset (%d) is out of bounds for %d #bytes. Overflowed: %b",
         "Section %d size (%d) + offset (%d) is out of bounds. Overflowed: %b",
         "Section %d size (%d) + addr (%d) is out of bounds. Overflowed: %b",
-        "Integer do not fit: out of range integral type conversion attempted"};
+        "Integer do not fit: out of range integral type conversion attempted: %d at offset %o"};
     out_t out = {(uint8_t *)text, capacity, 0};
     const char *format = why->kind < sizeof formats / sizeof *formats ? formats[why->kind] : NULL;
     if (format && why->kind >= 10) word(&out, "Malformed entity: ");
