@@ -30,8 +30,9 @@ def c(root):
         shown.append(f'"{name}: %zu bytes", sizeof({name})')
         shown += [f'"{name}.{field}: {kind.strip()} at %zu", offsetof({name}, {field})' for kind, field in re.findall(r'(\w[^;]*?)(\w+);', body)]
     for name, value in re.findall(r'^#define (GOBLIN_\S+) ?(.*)', printed('cc', '-E', '-dM', header), re.M):
-        has_text = re.match(r'["{]|.*goblin_refusal_t|$', value) or not re.fullmatch(r'\w+', name)
-        (lines if has_text else numbers).append(f'{name} = {value}' if value[:1] in ('"', '{') and 'VERSION' not in name else name)
+        is_of_release = re.match('GOBLIN_(VERSION|PACKAGE)_', name)
+        has_text = is_of_release or re.match(r'["{]|.*goblin_refusal_t|$', value) or not re.fullmatch(r'\w+', name)
+        (lines if has_text else numbers).append(f'{name} = {value}' if value[:1] in ('"', '{') and not is_of_release else name)
     kinds = 'int: "int", unsigned: "uint32_t", unsigned long: "uint64_t", unsigned long long: "uint64_t"'
     shown += [f'"{name} = %llu, %s", (unsigned long long){name}, _Generic({name}, {kinds})' for name in numbers]
     with tempfile.TemporaryDirectory() as folder:
@@ -234,12 +235,11 @@ SAME = dict(pair.split('=') for pair in '''
     Elf.section=named len=count section_count=count segment_count=count symbol_count=count reloc_count=count dynamic_count=count goblin_symbol=get
     goblin_reloc=get goblin_symbols=iter goblin_relocs=iter Strtab.get=string_utf8 Strings.get=string_utf8 get_bytes=string
     get_closed_bytes=string_closed is_at=string_is starts_at=string_starts get_all_bytes=strings get_all=strings closed=closed_strings
-    section_data=section_range Section.bytes=section_range segment_data=segment_range Segment.bytes=segment_range readable_data=range_in_file
-    Section.bytes_in_file=range_in_file Segment.bytes_in_file=range_in_file shdr_strtab=names_section Dynamic.entries=dynamic_entries
+    section_data=section_range segment_data=segment_range readable_data=range_in_file shdr_strtab=names_section Dynamic.entries=dynamic_entries
     Dynamic.value=dynamic_value Dynamic.strings=dynamic_strings notes=note_utf8 notes_bytes=note_whole Header.put=put_header
     put_section_header=put_section put_program_header=put_segment Section.number=number_in Segment.number=number_in Section.put_number=put_number_in
-    Segment.put_number=put_number_in Section.name=section_name Section.symbols=symtab Section.strings=strtab Segment.strings=strtab
-    Note.type_to_str=note_type_to_str NoteBytes.type_to_str=note_type_to_str ProgramHeader.holds=segment_holds Dyn.string=string_of_entry'''.split())
+    Segment.put_number=put_number_in Section.name=section_name Note.type_to_str=note_type_to_str NoteBytes.type_to_str=note_type_to_str
+    ProgramHeader.holds=segment_holds Dyn.string=string_of_entry Section.data=section_range Segment.data=segment_range'''.split())
 SAID = {'count': ('len(table)', 'list.length'), 'get': ('table[index]', 'list.get(index)'), 'iter': ('for item in table', 'for (item of list)'),
         'to_vec': ('list(table)', '[...list]'), 'is_empty': ('not table', '!list.length')}
 
