@@ -30,8 +30,9 @@ def c(root):
         shown.append(f'"{name}: %zu bytes", sizeof({name})')
         shown += [f'"{name}.{field}: {kind.strip()} at %zu", offsetof({name}, {field})' for kind, field in re.findall(r'(\w[^;]*?)(\w+);', body)]
     for name, value in re.findall(r'^#define (GOBLIN_\S+) ?(.*)', printed('cc', '-E', '-dM', header), re.M):
-        has_text = re.match(r'["{]|.*goblin_refusal_t|$', value) or not re.fullmatch(r'\w+', name)
-        (lines if has_text else numbers).append(f'{name} = {value}' if value[:1] in ('"', '{') and 'VERSION' not in name else name)
+        is_of_release = re.match('GOBLIN_(VERSION|PACKAGE)_', name)
+        has_text = is_of_release or re.match(r'["{]|.*goblin_refusal_t|$', value) or not re.fullmatch(r'\w+', name)
+        (lines if has_text else numbers).append(f'{name} = {value}' if value[:1] in ('"', '{') and not is_of_release else name)
     kinds = 'int: "int", unsigned: "uint32_t", unsigned long: "uint64_t", unsigned long long: "uint64_t"'
     shown += [f'"{name} = %llu, %s", (unsigned long long){name}, _Generic({name}, {kinds})' for name in numbers]
     with tempfile.TemporaryDirectory() as folder:
@@ -202,24 +203,23 @@ def python(installed):
         del sys.modules[name]
     package, libraries = importlib.import_module('goblin_elf'), map(str, Path(installed, PACKAGE).glob('*.so.*'))
     lines = re.findall(r'(?<= T )\S+', printed('nm', '-D', '--with-symbol-versions', *libraries))
-    is_own = lambda one, name='goblin_elf': getattr(one, '__module__', '').startswith(name)
+    is_own = lambda one: getattr(one, '__module__', '').startswith('goblin_elf')
     def said(one):
         one, get = getattr(one, '__func__', one), getattr(one, 'fget', getattr(one, 'func', None))
         if not inspect.isfunction(get or one):
             return f' = {int(one)}' if isinstance(one, int) else f': {one.__base__.__name__}' if inspect.isclass(one) else ''
         found = re.search(r'def \w+(\(.*?\)(?: -> [^\n]*?)?):\n', inspect.getsource(get or one), re.S)
-        text = re.sub(r'^\((?:self|cls)(?:: Any)?(?:, )?', '(', ' '.join(found[1].split())).replace("'", '')
+        text = re.sub(r'^\((?:self|cls)(?:: \w+)?(?:, )?', '(', ' '.join(found[1].split())).replace("'", '')
         return text[2:].replace(' ->', ':') if get else text
     names = [one.name for one in pkgutil.iter_modules(package.__path__) if one.name[0] != '_']
     for module in [package, *(importlib.import_module(f'goblin_elf.{name}') for name in names)]:
-        listed = [name for name, one in vars(module).items() if is_own(one, module.__name__) and name[0] != '_']
         lines += [f'goblin-scan: a column {name}' for name in vars(module).get('COLUMNS', [])]
-        for name, one in [(f'{module.__name__}.{name}', vars(module)[name]) for name in getattr(module, '__all__', listed)]:
-            if module is package or vars(package).get(name.split('.')[-1]) is not one:
-                lines.append(name + said(one))
-                for base in one.__mro__ if inspect.isclass(one) and is_own(one) else []:
-                    own = {inner: value for inner, value in vars(base).items() if is_own(base) and not hasattr(package, inner)}
-                    lines += [f'{name}.{inner}{said(value)}' for inner, value in own.items() if inner[0] != '_' or inner == '__init__']
+        for name in [name for name in getattr(module, '__all__', []) if module is package or name not in package.__all__]:
+            one, path = vars(module)[name], f'{module.__name__}.{name}'
+            lines.append(path + said(one))
+            for base in one.__mro__ if inspect.isclass(one) and is_own(one) else []:
+                own = {inner: value for inner, value in vars(base).items() if is_own(base) and not (isinstance(value, int) and inner in vars(module))}
+                lines += [f'{path}.{inner}{said(value)}' for inner, value in own.items() if inner[0] != '_' or name + inner == 'Elf__init__']
     return lines
 
 
@@ -234,26 +234,27 @@ SAME = dict(pair.split('=') for pair in '''
     Elf.section=named len=count section_count=count segment_count=count symbol_count=count reloc_count=count dynamic_count=count goblin_symbol=get
     goblin_reloc=get goblin_symbols=iter goblin_relocs=iter Strtab.get=string_utf8 Strings.get=string_utf8 get_bytes=string
     get_closed_bytes=string_closed is_at=string_is starts_at=string_starts get_all_bytes=strings get_all=strings closed=closed_strings
-    section_data=section_range Section.bytes=section_range segment_data=segment_range Segment.bytes=segment_range readable_data=range_in_file
-    Section.bytes_in_file=range_in_file Segment.bytes_in_file=range_in_file shdr_strtab=names_section Dynamic.entries=dynamic_entries
+    section_data=section_range segment_data=segment_range readable_data=range_in_file shdr_strtab=names_section Dynamic.entries=dynamic_entries
     Dynamic.value=dynamic_value Dynamic.strings=dynamic_strings notes=note_utf8 notes_bytes=note_whole Header.put=put_header
     put_section_header=put_section put_program_header=put_segment Section.number=number_in Segment.number=number_in Section.put_number=put_number_in
-    Segment.put_number=put_number_in Section.name=section_name Section.symbols=symtab Section.strings=strtab Segment.strings=strtab
-    Note.type_to_str=note_type_to_str NoteBytes.type_to_str=note_type_to_str ProgramHeader.holds=segment_holds Dyn.string=string_of_entry'''.split())
+    Segment.put_number=put_number_in Section.name=section_name Note.type_to_str=note_type_to_str NoteBytes.type_to_str=note_type_to_str
+    ProgramHeader.holds=segment_holds Dyn.string=string_of_entry Section.data=section_range Segment.data=segment_range Symbol.name=name
+    goblin_dynamic=dynamic_section'''.split())
 SAID = {'count': ('len(table)', 'list.length'), 'get': ('table[index]', 'list.get(index)'), 'iter': ('for item in table', 'for (item of list)'),
         'to_vec': ('list(table)', '[...list]'), 'is_empty': ('not table', '!list.length')}
 
 
 def table():
     """The table of calls: a row for those of one name, or of names that SAME has for one."""
-    rows = {key: [{}, {}, *({one: [one]} for one in said)] for key, said in SAID.items()}
+    rows, fields = {key: [{}, {}, *({one: [one]} for one in said)] for key, said in SAID.items()}, set()
     for column, language in enumerate(('c', 'rust', 'python', 'javascript')):
         text, between = text_of(f'{LISTS}/{language}.txt'), '::' if language == 'rust' else '.'
         records = re.findall(r'^interface (\w+)', text, re.M) + re.findall(r'(\w+): struct(?:<.*>)?$', text, re.M)
         for owner, name, after in sorted({found.groups('') for found in map(re.compile(CALL).match, text.splitlines()) if found}):
-            if after == '(' or owner and owner not in records:
-                short = name.replace('goblin_', '')
-                cell = rows.setdefault(SAME.get(f'{owner}.{name}'.strip('.'), SAME.get(short, short)), [{}, {}, {}, {}])[column]
+            own, short = f'{owner}.{name}'.strip('.'), name.replace('goblin_', '')
+            fields.update([name] * (after != '(' and owner in records))
+            if after == '(' or owner and owner not in records and (own in SAME or name not in fields):
+                cell = rows.setdefault(SAME.get(own, SAME.get(short, short)), [{}, {}, {}, {}])[column]
                 cell.setdefault(name, []).append(owner + between * bool(owner) + name)
     shown = lambda name, all: f'`{name}` of {len(all)} types' if len(all) > 3 else ', '.join(f'`{one}`' for one in all)
     line = lambda cells: '|'.join(', '.join(shown(*one) for one in cell.items()) or '-' for cell in cells)

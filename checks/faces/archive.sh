@@ -10,8 +10,7 @@ export LIBRARY="$folder/libgoblin_c.a" TARGET='' CPU=''
 
 # (a program in place of goblin_show, which another part of a test may build meanwhile)
 printf '#!/bin/sh\ncat "%s/crates/goblin_show/stdout"\n' "$PWD" > "$folder/program"
-mkdir "$folder/copy"
-tar --exclude=.git --exclude=out --exclude=target -cf - . | tar -C "$folder/copy" -xmf -
+copy_sources "$folder/copy"
 for mask in 077 022; do
     mkdir "$folder/$mask&|"
     if [ $mask = 077 ]; then from=$folder/copy; else from=.; fi

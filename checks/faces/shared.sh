@@ -30,6 +30,12 @@ fail() {
     exit 1
 }
 
+# Copies the sources into a new folder, where they have another time.
+copy_sources() {
+    mkdir "$1"
+    tar --exclude=.git --exclude=out --exclude=target -cf - . | tar -C "$1" -xmf -
+}
+
 # Runs a command, and prints its output only if it fails.
 quietly() { "$@" > "$folder/output" 2>&1 || { cat "$folder/output"; fail "failed: $*"; }; }
 

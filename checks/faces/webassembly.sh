@@ -1,7 +1,7 @@
 #!/bin/sh
 # Tests the module for WebAssembly, called from JavaScript: sh checks/faces/webassembly.sh FOLDER, after c.sh
-# JavaScript reads from whole and damaged files what C reads, and its calls do what their comments say. If the machine lacks node, a line says
-# what is left out.
+# JavaScript reads from whole and damaged files what C reads, and its calls do what their comments say. The archive, which has the package and
+# the page, has the same bytes whatever the folder and the time of the sources. If the machine lacks node, a line says what is left out.
 . checks/faces/shared.sh
 web=$folder/web
 dump=$folder/dump
@@ -12,6 +12,9 @@ check_axioms
 build dump -std=c99
 tar -C "$folder" -xzf "$folder/goblin_web.tar.gz"
 mv "$folder"/goblin_c-*/share/goblin_c/web "$web"
+copy_sources "$folder/copy"
+(cd "$folder/copy" && quietly env LIBRARY="$web/goblin_c.wasm" CPU= TARGET=wasm64-unknown-unknown sh faces/install.sh --archive ../again.tar.gz)
+quietly cmp "$folder/goblin_web.tar.gz" "$folder/again.tar.gz"
 find_node
 call() { node ${flag:+"$flag"} "$@"; }
 
