@@ -12,6 +12,9 @@ check_axioms
 build dump -std=c99
 tar -C "$folder" -xzf "$folder/goblin_web.tar.gz"
 mv "$folder"/goblin_c-*/share/goblin_c/web "$web"
+# (what is made of goblin.h is what the script makes)
+python3 faces/constants.py --made
+for made in constants interface; do cmp "faces/web/$made.js" "$web/$made.js"; done
 find_node
 call() { node ${flag:+"$flag"} "$@"; }
 
