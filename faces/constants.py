@@ -20,6 +20,7 @@ has 64 bits. Each language also gets what goblin.h declares, and the number of t
 """
 import os
 import re
+import struct
 import subprocess
 import sys
 import textwrap
@@ -178,29 +179,32 @@ export const VERSION = {interface()};
     return text
 
 
-# The structs that are items, with their names in JavaScript; the fields that are BigInts though C has them in fewer than 64 bits; the bytes of each
-# type of a field; and the kinds of refusals that no call for C returns.
+# The structs that are items, with their names in JavaScript, the fields that are BigInts though C has them in fewer than 64 bits, and the kinds
+# of refusals that no call for C returns.
 JS_ITEMS = {'range': 'Range', 'header': 'Header', 'section': 'SectionHeader', 'segment': 'ProgramHeader', 'symbol': 'Sym', 'reloc': 'Reloc',
             'dyn': 'Dyn'}
 JS_WIDE = ('sh_name', 'st_name', 'st_shndx', 'r_sym')
-JS_WIDTHS = {'B': 1, 'H': 2, 'I': 4, 'Q': 8, 'q': 8}
-JS_OWN = 'This kind is of goblin.js.'
-JS_KINDS = [(f'No section has the number of the symbols that the dynamic section has: their address. {JS_OWN}', 'NOT_COUNTED', '0xfffffff9'),
-            (f'A number is to be written in bytes that are not 1, 2, 4 or 8: how many. {JS_OWN}', 'NUMBER_WIDTH', '0xfffffffa'),
-            (f'An item is to be written past the end of its list: its index. {JS_OWN}', 'NO_ITEM', '0xfffffffb'),
-            (f'Of strings that are read at once no zero byte closes one: its offset in the table. {JS_OWN}', 'OPEN_STRING', '0xfffffffd'),
-            (f'The value of an entry of the dynamic section is the offset of no string: its tag; its value. {JS_OWN}', 'NO_STRING', '0xfffffffe'),
-            (f'A section was read as symbols or relocations, and has another type: its type. {JS_OWN}', 'SECTION_TYPE', '0xffffffff')]
+JS_KINDS = [(f'{words} This kind is of goblin.js.', name, value) for words, name, value in (
+    ('No section has the number of the symbols that the dynamic section has: their address.', 'NOT_COUNTED', '0xfffffff9'),
+    ('A number is to be written in bytes that are not 1, 2, 4 or 8: how many.', 'NUMBER_WIDTH', '0xfffffffa'),
+    ('An item is to be written past the end of its list: its index.', 'NO_ITEM', '0xfffffffb'),
+    ('Of strings that are read at once no zero byte closes one: its offset in the table.', 'OPEN_STRING', '0xfffffffd'),
+    ('The value of an entry of the dynamic section is the offset of no string: its tag; its value.', 'NO_STRING', '0xfffffffe'),
+    ('A section was read as symbols or relocations, and has another type: its type.', 'SECTION_TYPE', '0xffffffff'))]
 
 
 def js_lines(text, indent):
     return textwrap.fill(text, WIDTH, initial_indent=' * ', subsequent_indent=f' * {indent}', break_on_hyphens=False) + '\n'
 
 
+def js_type(field, code):
+    return 'bigint' if code in 'Qq' or field in JS_WIDE else 'number'
+
+
 def js_item(name, comment, fields):
     text = f'\n/**\n{js_lines(comment.split(". ")[0].rstrip(".") + ".", "")} * @typedef {{object}} {JS_ITEMS[name]}\n'
     for field, code, words in fields:
-        kind = 'bigint' if code in 'Qq' or field in JS_WIDE else 'number'
+        kind = js_type(field, code)
         if field == 'r_addend':
             kind, words = 'bigint | undefined', 'the addend, or `undefined` if the relocation has none of its own'
         text += js_lines(f'@property {{{kind}}} {field} {words}'.rstrip(), '  ')
@@ -209,14 +213,10 @@ def js_item(name, comment, fields):
 
 def js_struct(name, fields):
     """A struct with its size, and its fields, each with its offset in C, its number of bytes, or `s` if it is signed, and its type."""
-    text, end, widest = '', 0, 1
-    for field, code, _ in fields:
-        width = JS_WIDTHS[code]
-        offset, widest = -(-end // width) * width, max(widest, width)
-        end = offset + width
-        kind = 'bigint' if width == 8 or field in JS_WIDE else 'number'
-        text += f"        ['{field}', {offset}, {repr('s') if code == 'q' else width}, '{kind}'],\n"
-    return f'    {name}: {{ size: {-(-end // widest) * widest}, fields: [\n{text}    ] }},\n'
+    codes = ''.join(code for _, code, _ in fields)
+    rows = ((field, struct.calcsize(f'{codes[:i]}0{code}'), 's' if code == 'q' else struct.calcsize(code), js_type(field, code))
+            for i, (field, code, _) in enumerate(fields))
+    return f'    {name}: {{ size: {struct.calcsize(codes + "0Q")}, fields: [\n' + ''.join(f'        {list(row)},\n' for row in rows) + '    ] },\n'
 
 
 def js_interface():

@@ -595,14 +595,15 @@ check('If a file has more segments than its header can say, the first section he
 check('In a file with sections code is what executable sections hold, and no padding of a segment', async () => {
     const content = patched(elf_file({ segments: [{ flags: 5, vaddr: 0x400000, bytes: Buffer.alloc(4096) }],
         sections: [code(Buffer.alloc(4096, 0x90), { addr: 0x401000 })] }), [64 + 0x20, 8192]);
+    const share = (bytes, of = content) => Math.round(1000 * bytes / of.length) / 10;
     await pick_written('padding', content);
-    const legend = await shares(), share = (bytes) => Math.round(1000 * bytes / content.length) / 10;
+    const legend = await shares();
     // (the names of sections have 17 bytes)
     assert.deepEqual([legend.code, legend.padding], [share(4096), share(4096 + 7)]);
     // (bytes in no section are a gap, unless they are all the same)
     const hole = elf_file({ sections: [code(Buffer.alloc(4096, 'gap'))] });
     await pick_written('hole', patched(hole, [header_at(hole, 1) + 0x20, 96]));
-    assert.equal((await shares()).gap, Math.round(1000 * 4000 / hole.length) / 10);
+    assert.equal((await shares()).gap, share(4000, hole));
     await pick(program_file);
     const pattern = /^ {2}\[ *\d+\] \S+ +(?!NOBITS)[A-Z_]+ +\S+ \S+ ([0-9a-f]+) \S+ +[WA]*X/gm;
     const held = [...listed(program_file).matchAll(pattern)].reduce((all, [, size]) => all + parseInt(size, 16), 0);
@@ -751,18 +752,15 @@ check_program('A symbol has its bytes, and links along which back and forward le
 
 check('A link to a location leads there once the file is picked', async () => {
     await browser.open(`${url}#sections/${sections['.dynstr'].index}`);
-    await pick(program_file);
-    await until_chosen('.dynstr');
-    assert.equal(await text_of(`${active_row} :nth-child(2)`), '.dynstr');
+    await take([pick, program_file], [until_chosen, '.dynstr'],
+        [has_texts, { [`${active_row} :nth-child(2)`]: '.dynstr' }]);
 });
 
 check_program('A section has links to those at its sh_link and sh_info', async () => {
-    const links = [['.rela.plt', '.dynsym', { sh_info: /^\d+, \.got/ }], ['.rela.dyn', '.dynsym'],
-        ['.dynsym', '.dynstr'], ['.symtab', '.strtab']];
-    for (const [name, link, fields = {}] of links) {
-        await go(`sections/${sections[name].index}`, name, { sh_link: `${sections[link].index}, ${link}`, ...fields });
-        await follow(link);
-    }
+    for (const [name, link, fields = {}] of [['.rela.plt', '.dynsym', { sh_info: /^\d+, \.got/ }],
+        ['.rela.dyn', '.dynsym'], ['.dynsym', '.dynstr'], ['.symtab', '.strtab']])
+        await take([go, `sections/${sections[name].index}`, name,
+            { sh_link: `${sections[link].index}, ${link}`, ...fields }], [follow, link]);
 });
 
 check_program('Back goes from row to row, and the steps of the arrow keys count as one', async () => {
@@ -1125,18 +1123,17 @@ check('A sentence says that a folder is dropped, that of two files one is opened
 });
 
 check('Control characters and those that turn the direction of a text are escaped, in saved lists, too', async () => {
-    const codes = (from, to) => Array.from({ length: to - from + 1 }, (_, i) => from + i);
-    const directions = [0x200e, 0x200f, ...codes(0x2028, 0x202e), ...codes(0x2066, 0x2069)],
-        fillers = [0x34f, 0x115f, 0x180b, 0x2800, 0x3164, 0xfe0f, 0xffa0, 0xe0100],
-        groups = [codes(1, 0x1f), codes(0x7f, 0x9f), directions, fillers];
-    const names = groups.map((group) => `a${String.fromCodePoint(...group)}`);
-    await pick_written('unseen', symbols_file(names.map((text) => ({ text }))), 'symbols');
+    const codes = (from, to) => times(to - from + 1, (i) => from + i), groups = [codes(1, 0x1f), codes(0x7f, 0x9f),
+        [0x200e, 0x200f, ...codes(0x2028, 0x202e), ...codes(0x2066, 0x2069)],
+        [0x34f, 0x115f, 0x180b, 0x2800, 0x3164, 0xfe0f, 0xffa0, 0xe0100]];
+    const names = groups.map((group) => `a${String.fromCodePoint(...group)}`),
+        escapes = names.map((name) => `a${Buffer.from(name.slice(1)).toString('hex').replace(/../g, '\\x$&')}`);
     const shown = groups.map((group) =>
         `a${group.map((code) => `U+${code.toString(16).toUpperCase().padStart(4, '0')}`).join('')}`);
-    const saved = (await saved_rows('symbols')).slice(1).map(([, name]) => name),
-        escapes = names.map((name) => `a${Buffer.from(name.slice(1)).toString('hex').replace(/../g, '\\x$&')}`);
-    assert.deepEqual([(await cells(1)).slice(1), saved], [shown, escapes]);
-    for (const [i, title] of shown.entries()) await go(`symbols/1/${i + 1}`, title);
+    await take([pick_written, 'unseen', symbols_file(names.map((text) => ({ text }))), 'symbols'],
+        [is, async () => (await cells(1)).slice(1), shown],
+        [is, async () => (await saved_rows('symbols')).slice(1).map(([, name]) => name), escapes],
+        ...shown.map((title, i) => [go, `symbols/1/${i + 1}`, title]));
 });
 
 check('The page says in words what a refusal means, and has an example', async () => {
@@ -1249,16 +1246,16 @@ check('Paper has the summary, and all rows of the open list, over as many sheets
 });
 
 check_program('Whatever is pressed is at least 24 pixels high', async () => {
-    for (const [width, height] of [[1280, 900], [800, 900], [400, 800], [800, 400]]) {
-        await resize(width, height);
+    for (const size of [[1280, 900], [800, 900], [400, 800], [800, 400]]) {
+        await resize(...size);
         for (const [place, title = 'ELF header'] of [['header/e_type', 'e_type'], ['summary'],
             ['section=.text', '.text'], ['sections'], [main_place, 'main'], [symtab], ['offset/0x10', 'offset 0x10'],
             ['sizes']]) {
             await go(place, title);
             const heights = (await each_of('button, .button, select, input:not(.unseen)', `item.offsetParent !== null
                 && [item.textContent || item.id, item.getBoundingClientRect().height]`)).filter(Boolean);
-            assert.deepEqual(heights.filter(([, high]) => high < 24), [], `${place}, ${width}`);
-            assert.ok(heights.length > 4, `${place}, ${width}: ${heights.length} buttons`);
+            assert.deepEqual(heights.filter(([, high]) => high < 24), [], `${place}, ${size}`);
+            assert.ok(heights.length > 4, `${place}, ${size}: ${heights.length} buttons`);
         }
     }
 });
@@ -1346,19 +1343,17 @@ check('What is narrower than a pixel is drawn as a pixel', async () => {
     const [[largest, name], second] = await facts('', 'Largest sections');
     assert.deepEqual([largest.startsWith('65,311 bytes, '), name, ...second.slice(0, 2)],
         [true, '.shstrtab', '8 bytes, 0.0 %', 'section 1']);
-    await go('header/e_shnum', 'e_shnum', { value: '0, sh_size of section 0 has it' });
-    await go('header/e_shstrndx', 'e_shstrndx', { value: '65535, sh_link of section 0 has it, .shstrtab' });
-    await click('#tab-sections');
+    await take([go, 'header/e_shnum', 'e_shnum', { value: '0, sh_size of section 0 has it' }],
+        [go, 'header/e_shstrndx', 'e_shstrndx', { value: '65535, sh_link of section 0 has it, .shstrtab' }],
+        [click, '#tab-sections']);
     const wanted = await bar_of(content.length) * count * 8 / await each_row(), many = await pixels_of('constants', 12);
     assert.ok(wanted > 500 && Math.abs(many - wanted) < 5, `${many} pixels, not ${wanted}`);
-    await pick_written('large', elf_file({ sections: [code(Buffer.alloc(1 << 22))] }));
-    assert.deepEqual([await pixels_of('header', 12), await pixels_of('code', 12) > 500], [1, true]);
-    const debug = { name: '.debug_info', type: 1, bytes: Buffer.alloc(1 << 20) },
-        noted = { name: '.note', type: 7, bytes: note('GNU', 3, bytes) };
-    await pick_written('debug', elf_file({ sections: [debug, noted] }));
-    assert.deepEqual(await shares(), { 'debug information': 100 });
-    assert.match(await text_of('#legend'),
-        /each below 0.05 %: ELF header, header tables, symbols and names, notes, padding/);
+    const noted = { name: '.note', type: 7, bytes: note('GNU', 3, bytes) },
+        debug = elf_file({ sections: [data('.debug_info', Buffer.alloc(1 << 20)), noted] });
+    await take([pick_written, 'large', elf_file({ sections: [code(Buffer.alloc(1 << 22))] })],
+        [is, () => pixels_of('header', 12), 1], [is, async () => await pixels_of('code', 12) > 500, true],
+        [pick_written, 'debug', debug], [is, shares, { 'debug information': 100 }], [has_texts,
+            { '#legend': /each below 0.05 %: ELF header, header tables, symbols and names, notes, padding/ }]);
 });
 
 // The bytes of a row of the map, the map's place, the width of a row's bar, and a wait for the line above the map.
@@ -1434,33 +1429,27 @@ check_program('The wheel zooms to what is below the pointer, dragging moves it, 
     const zoomed = (each) => readout(new RegExp(`each row has ${decimal(each)} bytes`));
     const is_near = async (at) => assert.ok(Math.abs((await pointed(at, y)).byte - byte) < whole / 400);
     await browser.wheel(x, y, -120);
-    await zoomed(whole / 2);
-    await is_near(x);
+    await take([zoomed, whole / 2], [is_near, x]);
     await browser.drag([x, y], [x + 90, y]);
-    await is_near(x + 90);
-    await press('#canvas', 'PageDown');
+    await take([is_near, x + 90], [press, '#canvas', 'PageDown']);
     assert.ok((await pointed(x, y)).byte > byte + whole / 2);
-    await browser.press('0');
-    await zoomed(whole);
-    await go(main_place, 'main');
+    await take([press, '#canvas', '0'], [zoomed, whole], [go, main_place, 'main']);
     let each = whole;
-    for (; each > main.size; await zoomed(each)) { each /= 2; await browser.press('+'); }
+    for (; each > main.size; await zoomed(each)) { each /= 2; await press('#canvas', '+'); }
     // (the start of what is chosen stays where it was, and functions have other colours than their section)
     assert.match((await pointed(...spot)).text, /^main · \.text · code · /);
     assert.ok(await pixels_of('code', 12) < bar && await pixels_of('in-3', 24) > bar);
     await go('header', 'ELF header');
     await browser.drag(spot, spot);
-    await until_chosen('main');
     const [next] = functions.filter(({ size, value }) => size > 8 && value > main.value)
         .sort((a, b) => a.value - b.value);
-    await browser.press('ArrowRight');
-    await until_chosen(next.name);
-    for (; each > 16; await zoomed(each)) { each = Math.max(each / 2, 16); await browser.press('+'); }
+    await take([until_chosen, 'main'], [press, '#canvas', 'ArrowRight'], [until_chosen, next.name]);
+    for (; each > 16; await zoomed(each)) { each = Math.max(each / 2, 16); await press('#canvas', '+'); }
     await pointed(x, y); // (then the worker has sent the bytes, too)
     assert.ok(await pixels_of('in-3', 12) > bar && await pixels_of('code', 12) === 0);
     // (the last byte of a function is in it, and the next one is not)
     const bytes = Buffer.alloc(16, 1),
-        file = symbols_file([{ text: 'a', info: 2, shndx: 3, size: 8 }], { name: '.text', type: 1, bytes });
+        file = symbols_file([{ text: 'a', info: 2, shndx: 3, size: 8 }], data('.text', bytes));
     const at = file.indexOf(bytes),
         [last, after] = await pick_written('function', file).then((path) => spots_of(path, at + 7, at + 8));
     assert.match((await pointed(...last)).text, new RegExp(`^a · \\.text · .* at ${hex(at + 7)}$`));

@@ -19,7 +19,7 @@ IMPORT = re.compile(r"^import (?P<what>[^;]+?) from '\.(?:\./web)?/(?P<name>\w+)
 EXPORT = re.compile(r'^export (?:const|class|function|function\*|async function) (\w+)', re.M)
 REEXPORT = re.compile(r"^export \* from '\./(?P<name>\w+)\.js';\n", re.M)
 LISTED = re.compile(r'^export { (.+) };\n', re.M)
-DOC = re.compile(r'^ */\*\*(?:(?!\*/).)*\*/\n', re.M | re.S)
+COMMENT = re.compile(r'^ *(?:/\*\*(?:(?!\*/).)*\*/|//[^\n]*)\n', re.M | re.S)
 
 
 def read(name):
@@ -40,9 +40,9 @@ def hash_of(text):
 
 
 def source_of(name):
-    """Returns the source of a file without its JSDoc comments. In goblin.js it also drops the address of the file, which only a module
-    has."""
-    text = DOC.sub('', read(f'{name}.js'))
+    """Returns the source of a file without the comments that have lines of their own. In goblin.js it also drops the address of the file,
+    which only a module has."""
+    text = COMMENT.sub('', read(f'{name}.js'))
     if name == 'goblin':
         text = replaced(text, 'export default async function init', 'export async function init')
         text = replaced(text, " = new URL('goblin_c.wasm', import.meta.url)", '')

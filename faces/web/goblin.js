@@ -1332,14 +1332,15 @@ export class Symtab extends List {
 
     // Returns a function of an index: the first and the last address that the section there holds, if it holds any.
     #held_by() {
-        const memory = this.#memory, { e_type } = memory.header;
-        return (index) => {
+        const memory = this.#memory, { e_type } = memory.header, known = new Map();
+        const find = (index) => {
             const section = index < SHN_LORESERVE
                 ? memory.call('goblin_section', 'section', unsigned(index, 64)) : undefined;
             if (!section?.sh_size || (e_type !== ET_REL && !is_alloc(section))) return undefined;
             const first = e_type === ET_REL ? 0n : section.sh_addr;
             return { first, last: last_of(first, section.sh_size) };
         };
+        return (index) => known.get(index) ?? known.set(index, find(index)).get(index);
     }
 }
 
@@ -1353,12 +1354,6 @@ const LAST = (1n << 64n) - 1n;
 // Returns the last address of so many from one on, but at most the last of all.
 const last_of = (first, size) => (size > LAST - first ? LAST : first + size - 1n);
 
-// Compares the places of symbols by what decides between two that hold an address: that a symbol contains it, then the
-// higher value, the size 0, and the lower index.
-const by_rank = (a, b) => Number(b.is_inside) - Number(a.is_inside)
-    || (a.start > b.start ? -1 : a.start < b.start ? 1 : Number(b.size === 0n) - Number(a.size === 0n))
-    || a.index - b.index;
-
 /** A sorted map of the addresses of a symbol table, for many searches. It finds what `symbol_by_address` of the table
  * finds in a time that grows with the logarithm of the number of symbols. It is not part of the library: it is compared
  * with that call, but not proved. */
@@ -1366,32 +1361,37 @@ export class AddressMap {
     #symtab; #starts; #indices;
 
     constructor(symtab, held_by) {
-        this.#symtab = symtab;
         // the places of the symbols that count: the addresses that one contains, and those that its section holds from
         // its value on
         const places = [];
-        let number = 0;
+        let count = 0;
         for (const { st_value: start, st_size: size, st_info, st_shndx } of symtab) {
-            const given = { start, size, index: number++ };
+            const index = count++;
             if (!may_contain({ st_info, st_shndx })) continue;
-            if (size) places.push({ ...given, is_inside: true, first: start, last: last_of(start, size) });
             const section = held_by(st_shndx), first = section && (section.first > start ? section.first : start);
+            if (size) places.push({ index, size, start, first: start, last: last_of(start, size), is_inside: 1 });
             if (section && first <= section.last)
-                places.push({ ...given, is_inside: false, first, last: section.last });
+                places.push({ index, size, start, first, last: section.last, is_inside: 0 });
         }
-        const ends = places.filter(({ last }) => last < LAST).map(({ last }) => last + 1n);
-        const starts = BigUint64Array.from(places.map(({ first }) => first).concat(ends)).sort()
-            .filter((start, i, all) => i === 0 || start !== all[i - 1]);
+        const ends = places.map(({ start, first, last }) => [start, first, last < LAST ? last + 1n : first]);
+        const starts = BigUint64Array.from(ends.flat()).sort().filter((start, i, all) => start !== all[i - 1]),
+            slots = new Map(Array.from(starts, (start, i) => [start, i]));
+        // (what decides between two at an address: that a symbol contains it, a high value, the size 0, a low index)
+        for (const place of places) {
+            const { index, size, start, is_inside } = place, value = is_inside * starts.length + slots.get(start);
+            place.rank = (2 * value + Number(size === 0n)) * count - index;
+        }
         // each place, from the highest by its rank on, takes what is left of its addresses, and none twice
         const next = Uint32Array.from({ length: starts.length + 1 }, (_, i) => i), indices = new Array(starts.length);
         const left = (i) => { while (next[i] !== i) i = next[i] = next[next[i]]; return i; };
-        const at = new Map(Array.from(starts, (start, i) => [start, i]));
-        for (const { index, size, is_inside, first, last } of places.sort(by_rank)) {
-            for (let i = left(at.get(first)); starts[i] <= last; i = left(i)) {
+        for (const { index, size, is_inside, first, last } of places.sort((a, b) => b.rank - a.rank)) {
+            const end = last < LAST ? slots.get(last + 1n) : starts.length;
+            for (let i = left(slots.get(first)); i < end; i = left(i)) {
                 if (is_inside || size === 0n) indices[i] = index;
                 next[i] = i + 1;
             }
         }
+        this.#symtab = symtab;
         this.#starts = starts;
         this.#indices = indices;
     }
