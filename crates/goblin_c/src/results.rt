@@ -118,6 +118,7 @@ pub fn refuse(e: &Refused, why: &mut GoblinRefusal) -> u32
 }
 
 /// Stores the item or the refusal of a result. Returns 0 for an item, 1 for none, or the number of the kind.
+#[inline(always)]
 pub fn store<T: Copy>(answer: Result<Option<T>>, place: &mut T, why: &mut GoblinRefusal) -> u32
     ensures { Stores (refuse_as refusal_at answer) place.old why.old result place.new why.new }
 {

@@ -120,8 +120,8 @@ static void note(goblin_note_t *n) {
     n->name.offset = end, n->name.size = 7, n->desc.offset = end + 8, n->next = end + 16;
 }
 
-/* Tests which note is a build ID: the first of the first section, whose range may go on after it. A segment may have the
-   same note, but ends before the descriptor. */
+/* Tests which note is a build ID: the first of the first section, whose range may go on after it. A segment may have
+   the same note, but ends before the descriptor. */
 static void build_ids(void) {
     static const struct { const char *name; uint32_t size, n_type, desc, range, in_section, in_segment; } rows[] = {
         {"GNU", 4, 3, 8, 28, GOBLIN_OK, GOBLIN_REFUSED_BAD_OFFSET}, {"GNU", 4, 3, 0, 28, GOBLIN_OK, GOBLIN_OK},
