@@ -613,7 +613,7 @@ uint32_t goblin_note_whole(const goblin_file_t *file, const goblin_range_t *note
    Refused as goblin_segment_count is. Then at the first note that goblin_note_whole refuses, and if no segment has a
    build ID as goblin_section_count is.
    Example: if (goblin_build_id(&file, &range, &why) == GOBLIN_OK)
-                for (uint64_t i = 0; i < range.size; i++) printf("%02x", file.bytes[range.offset + i]); */
+                for (index = 0; index < range.size; index++) printf("%02x", file.bytes[range.offset + index]); */
 uint32_t goblin_build_id(const goblin_file_t *file, goblin_range_t *desc, goblin_refusal_t *why)
     GOBLIN_STATUS((1, 2, 3));
 

@@ -144,7 +144,7 @@ static void build_ids(void) {
             memcpy(file + end, rows[i].name, rows[i].size);
             uint32_t status = has_segment ? rows[i].in_segment : rows[i].in_section;
             /* (for a build ID in a segment no section headers are read) */
-            f.header.e_shoff = has_segment && status == GOBLIN_OK ? sizeof file : SECTIONS;
+            f.header.e_shoff = has_segment && status == GOBLIN_OK ? sizeof file : (size_t)SECTIONS;
             SAME(goblin_build_id(&f, &found, &why), status);
             if (status == GOBLIN_OK) SAME(found.offset, NOTES + 16), SAME(found.size, rows[i].desc);
         }
