@@ -4,7 +4,7 @@ use crate::error::{Error, Result};
 use crate::file::File;
 use crate::generated::{ITEM_RELOCATIONS, ITEM_SYMBOLS};
 use crate::header::{Header, ET_DYN, ET_REL};
-use crate::note::{self, AnyNote, NoteBytes, NoteIterator, Notes};
+use crate::note::{AnyNote, NoteBytes, NoteIterator, Notes};
 use crate::part::{Part, Ranged};
 use crate::program_header::{ProgramHeader, ProgramHeaders, SectionMap, SegmentSections};
 use crate::reloc::{holds_relocs, RelocSection};
@@ -479,8 +479,7 @@ impl<'a> Elf<'a> {
     }
 
     /// Returns the build ID: the descriptor of the first note `GNU` of type `NT_GNU_BUILD_ID` of the segments of notes
-    /// or, if they have none, of the sections of notes. It is looked for in at most 131,072 segments, and in the first
-    /// 65,536 of their notes, these sections and their notes.
+    /// or, if they have none, of the sections of notes. Of all these notes the first 65,536 are read.
     ///
     /// ```
     /// # let bytes = std::fs::read(std::env::current_exe()?)?;
@@ -493,7 +492,8 @@ impl<'a> Elf<'a> {
     /// # Errors
     /// If the headers are not inside the file, and then at the first damaged note.
     pub fn build_id(&self) -> Result<Option<&'a [u8]>> {
-        note::build_id(self)
+        let found = sys::goblin_build_id(&self.file, &self.header)?;
+        Ok(found.map(|range| self.file.slice(range)))
     }
 }
 

@@ -78,6 +78,7 @@ calls! {
     fn goblin_relocs([header] relocs: &Range, is_rela: bool, first: u64) into [Reloc] -> u64;
     fn goblin_note_utf8([header] notes: &Range, alignment: u64, offset: u64) -> Note;
     fn goblin_note_whole([header] notes: &Range, alignment: u64, offset: u64) -> Note;
+    fn goblin_build_id([header]) -> Range;
     fn goblin_string_utf8(strings: &Range, offset: u64) -> Range;
 }
 
