@@ -223,10 +223,10 @@ def python(installed):
     return lines
 
 
-# Each list, with the compiler that it needs, and what --self-test renames in which file.
-PLANTS = {c: ('cc', 'faces/c/goblin.h', 'goblin_linked_section'), rust: ('rustc', 'faces/rust/src/sym.rs', 'is_function'),
-          rattle: ('', 'crates/goblin_records/src/sym.rt', 'get_type'), definitions: ('', 'crates/goblin_base/specs/Strtab.antt', 'look_up'),
-          javascript: ('', 'faces/web/goblin.js', 'section_by_type'), python: ('nm', f'{PACKAGE}/elf.py', 'put_header')}
+# Each list, with the compiler that it needs, and what --self-test renames in which file: last in goblin.h, of which others are made.
+PLANTS = {rust: ('rustc', 'faces/rust/src/sym.rs', 'is_function'), rattle: ('', 'crates/goblin_records/src/sym.rt', 'get_type'),
+          definitions: ('', 'crates/goblin_base/specs/Strtab.antt', 'look_up'), javascript: ('', 'faces/web/goblin.js', 'section_by_type'),
+          python: ('nm', f'{PACKAGE}/*elf.py', 'put_header'), c: ('cc', 'faces/c/goblin.h', 'goblin_linked_section')}
 # How lists name a call and its type; calls that a language names otherwise; and what Python and JavaScript have in place of a call.
 CALL = r'(?:goblin_\w+(?:::|\.))?(?:[a-z]\w*::)*(?:(?!List)([A-Z]\w*)(?:::|\.))?(?:static |readonly |default function )?([a-z]\w*)(?:<[^(]*>)?(\(|: )'
 SAME = dict(pair.split('=') for pair in '''
@@ -266,7 +266,7 @@ def self_test(installed):
         shutil.copytree('.', folder, ignore=shutil.ignore_patterns('.git', 'out', 'target', 'files'), dirs_exist_ok=True)
         shutil.copytree(f'{installed}/{PACKAGE}', f'{folder}/{PACKAGE}')
         for one, (_, path, name) in PLANTS.items():
-            before, file = set(one(installed if path.startswith(PACKAGE) else '.')), Path(folder, path)
+            before, file = set(one(installed if path.startswith(PACKAGE) else '.')), next(Path(folder).glob(path))
             file.write_bytes(file.read_bytes().replace(name.encode(), f'{name[:-1]}q'.encode()))
             after = set(one(folder))
             if not before - after or any(name[:-1] not in line for line in before ^ after):
