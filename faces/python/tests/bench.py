@@ -20,16 +20,16 @@ TABLES, RELOCATIONS = (SHT_SYMTAB, SHT_DYNSYM), (SHT_RELA, SHT_REL)
 
 
 def arrays(path):
-    return sum(len(section.symbols.array()) for section in Elf.open(path).sections if section.sh_type in TABLES)
+    return sum(len(section.symtab.array()) for section in Elf.open(path).section_headers if section.sh_type in TABLES)
 
 
 def zipped(path):
-    tables = [section.symbols for section in Elf.open(path).sections if section.sh_type in TABLES]
+    tables = [section.symtab for section in Elf.open(path).section_headers if section.sh_type in TABLES]
     return len([(symbol.st_value, name) for table in tables for symbol, name in zip(table, table.names())])
 
 
 def by_name(path):
-    tables = [section.symbols for section in Elf.open(path).sections if section.sh_type in TABLES]
+    tables = [section.symtab for section in Elf.open(path).section_headers if section.sh_type in TABLES]
     return len([(symbol.st_value, symbol.name) for table in tables for symbol in table])
 
 
@@ -40,11 +40,11 @@ def their_symbols(path):
 
 
 def relocation_arrays(path):
-    return sum(len(section.relocations.array()) for section in Elf.open(path).sections if section.sh_type in RELOCATIONS)
+    return sum(len(section.relocs.array()) for section in Elf.open(path).section_headers if section.sh_type in RELOCATIONS)
 
 
 def relocations(path):
-    tables = [section.relocations for section in Elf.open(path).sections if section.sh_type in RELOCATIONS]
+    tables = [section.relocs for section in Elf.open(path).section_headers if section.sh_type in RELOCATIONS]
     return len([relocation.r_offset for table in tables for relocation in table])
 
 
@@ -68,11 +68,11 @@ def their_opened(paths):
 
 def sections(paths):
     return sum(len([(section.sh_size, name) for section, name in zip(table, table.names())])
-               for table in (Elf.open(path).sections for path in paths))
+               for table in (Elf.open(path).section_headers for path in paths))
 
 
 def sections_by_name(paths):
-    return sum(len([(section.sh_size, section.name) for section in Elf.open(path).sections]) for path in paths)
+    return sum(len([(section.sh_size, section.name) for section in Elf.open(path).section_headers]) for path in paths)
 
 
 def their_sections(paths):

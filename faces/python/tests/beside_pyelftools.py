@@ -22,7 +22,7 @@ from elftools.elf.sections import NoteSection, SymbolTableSection
 from elftools.elf.segments import InterpSegment, NoteSegment
 
 from goblin_elf import Elf, Refused
-from goblin_elf.facts import facts
+from goblin_elf._facts import facts
 
 import made
 from parts import PARTS, Ours, OursWhole, content_of, damaged, elf_files, made_files, read_by, sum_of

@@ -5,7 +5,7 @@ import random
 import resource
 
 from goblin_elf import PT_DYNAMIC, SHT_DYNSYM, SHT_NOTE, SHT_REL, SHT_RELA, SHT_SYMTAB, Elf
-from goblin_elf.facts import facts
+from goblin_elf._facts import facts
 
 import made
 
@@ -25,31 +25,31 @@ class Ours:
                 h.e_shnum, h.e_shstrndx, 64 if self.elf.is_64 else 32, self.elf.little_endian)
 
     def sections(self):
-        table = self.elf.sections
+        table = self.elf.section_headers
         return [(name, s.sh_name, s.sh_type, s.sh_flags, s.sh_addr, s.sh_offset, s.sh_size, s.sh_link, s.sh_info, s.sh_addralign, s.sh_entsize)
                 for s, name in zip(table, table.names('replace'))]
 
     def segments(self):
-        return [(s.p_type, s.p_flags, s.p_offset, s.p_vaddr, s.p_paddr, s.p_filesz, s.p_memsz, s.p_align) for s in self.elf.segments]
+        return [(s.p_type, s.p_flags, s.p_offset, s.p_vaddr, s.p_paddr, s.p_filesz, s.p_memsz, s.p_align) for s in self.elf.program_headers]
 
     def symbols(self):
-        tables = [s.symbols for s in self.elf.sections if s.sh_type in (SHT_SYMTAB, SHT_DYNSYM)]
-        return [[(name, s.st_name, s.st_value, s.st_size, s.st_shndx, s.binding, s.type, s.visibility)
+        tables = [s.symtab for s in self.elf.section_headers if s.sh_type in (SHT_SYMTAB, SHT_DYNSYM)]
+        return [[(name, s.st_name, s.st_value, s.st_size, s.st_shndx, s.st_bind, s.st_type, s.st_visibility)
                  for s, name in zip(table, table.names('replace'))] for table in tables]
 
     def relocations(self):
-        return [[relocation[:2] + (relocation.r_type, relocation.r_addend) for relocation in s.relocations]
-                for s in self.elf.sections if s.sh_type in (SHT_RELA, SHT_REL)]
+        return [[(r.r_offset, r.r_sym, r.r_type, r.r_addend) for r in s.relocs]
+                for s in self.elf.section_headers if s.sh_type in (SHT_RELA, SHT_REL)]
 
     def notes(self):
-        holders = [s for s in self.elf.segments if s.p_type == 4] + [s for s in self.elf.sections if s.sh_type == SHT_NOTE]
+        holders = [s for s in self.elf.program_headers if s.p_type == 4] + [s for s in self.elf.section_headers if s.sh_type == SHT_NOTE]
         # (pyelftools cuts a name at its first zero byte, after which .gnu.build.attributes have numbers)
         return [[(note.n_type, note.name.split('\0')[0], bytes(note.desc)) for note in holder.notes] for holder in holders]
 
     def linking(self):
-        found, texts = facts(self.elf), (self.elf.soname, self.elf.rpath, self.elf.runpath, self.elf.interpreter)
+        found, (soname, interpreter) = facts(self.elf), ([] if text is None else [text] for text in (self.elf.soname, self.elf.interpreter))
         # (of a file that is not loaded the other side says no)
-        return [self.elf.needed, *([text] if text is not None else [] for text in texts),
+        return [self.elf.libraries, soname, self.elf.rpaths, self.elf.runpaths, interpreter,
                 [found['nx'] or False, found['relro'] or 'no', found['pie'] or False]]
 
 
@@ -57,10 +57,10 @@ class OursWhole(Ours):
     """What goblin_elf reads by the header that counts only what lies in the file whole."""
 
     def whole_sections(self):
-        return list(self.elf.whole().sections)
+        return list(self.elf.whole().section_headers)
 
     def whole_segments(self):
-        return list(self.elf.whole().segments)
+        return list(self.elf.whole().program_headers)
 
 
 def read_by(kind, source, part):
@@ -119,18 +119,18 @@ def changed(name):
 
 
 def of_type(elf, p_type):
-    return next(segment for segment in elf.segments if segment.p_type == p_type)
+    return next(segment for segment in elf.program_headers if segment.p_type == p_type)
 
 
 def replace(elf, kind, **fields):
     """Changes fields of the first segment of a type."""
     segment = of_type(elf, kind)
-    elf.segments[segment.index] = segment._replace(**fields)
+    elf.program_headers[segment.index] = segment.replace(**fields)
 
 
 def put_value(elf, tag, value):
     """Changes the value of the first entry with a tag in a 64-bit file."""
-    entry = next(entry for entry in elf.dynamic if entry.tag == tag)
+    entry = next(entry for entry in elf.dynamic_section if entry.d_tag == tag)
     elf.put_number(of_type(elf, PT_DYNAMIC).p_offset + 16 * entry.index + 8, 8, value)
 
 

@@ -13,9 +13,10 @@ import unittest.mock
 from goblin_elf import (DT_JMPREL, DT_NEEDED, DT_PLTRELSZ, DT_STRSZ, EM_MIPS, PT_DYNAMIC, PT_GNU_RELRO, PT_GNU_STACK, PT_INTERP, PT_NOTE, SHT_RELA,
                         SHT_SYMTAB, Elf)
 from goblin_elf import __main__ as program
-from goblin_elf import facts as facts_module
-from goblin_elf import marks, scan
-from goblin_elf.facts import FACTS, SEARCHED, facts
+from goblin_elf import _facts as facts_module
+from goblin_elf import _marks as marks
+from goblin_elf import scan
+from goblin_elf._facts import FACTS, SEARCHED, facts
 
 import made
 from parts import FILES, changed, content_of, of_type, put_value, replace, stored
@@ -95,7 +96,7 @@ class Facts(unittest.TestCase):
         linked = ['soname', 'rpath', 'runpath', 'needed', 'pie', 'relro', 'bind_now']
         elf, count = changed('facts/full'), 4097
         # a name that is not in the strings, strings and an interpreter that are not in the file, and more entries than are read
-        for offset in (1 << 40, elf.dynamic.strings.size):
+        for offset in (1 << 40, elf.dynamic_section.strings.size):
             put_value(elf, DT_NEEDED, offset)
             self.assertEqual((facts(elf)['unknown'], facts(elf)['refused']), (['needed'], 'NO_STRING'))
         put_value(elf, DT_STRSZ, 1 << 40)
@@ -155,18 +156,18 @@ class Facts(unittest.TestCase):
     def test_names_past_those_that_are_read(self):
         """Compilers are known if all have at most 65,536 bytes, and a canary if its name is one of the first 64 that the strings have."""
         elf = changed('facts/two_compilers')
-        comment = elf.section('.comment')
+        comment = elf.section_by_name('.comment')
         for size, expected in ((65536, (['a'], [])), (65537, (None, ['compilers']))):
             longer = Elf(bytearray(elf.bytes) + (b'a\0' * 32769)[:size])
-            longer.sections[comment.index] = comment._replace(sh_offset=len(elf.bytes), sh_size=size)
+            longer.section_headers[comment.index] = comment.replace(sh_offset=len(elf.bytes), sh_size=size)
             self.assertEqual((facts(longer)['compilers'], facts(longer)['unknown']), expected)
         elf = changed('facts/object')
-        symbol, strings = elf.symbols.find('__stack_chk_fail@GLIBC_2.4'), elf.section_by_type(SHT_SYMTAB).linked
+        symbol, strings = elf.syms.symbol_by_name('__stack_chk_fail@GLIBC_2.4'), elf.section_by_type(SHT_SYMTAB).linked_section
         for count, expected in ((63, (True, [])), (64, (None, ['canary']))):
             names = b''.join(b'__stack_chk_guard@%d\0' % number for number in range(count))
-            longer = Elf(bytearray(elf.bytes) + bytes(strings.bytes) + names)
-            longer.sections[strings.index] = strings._replace(sh_offset=len(elf.bytes), sh_size=strings.sh_size + len(names))
-            longer.symbols[symbol.index] = symbol._replace(st_name=strings.sh_size + names.rindex(b'__'))
+            longer = Elf(bytearray(elf.bytes) + bytes(strings.data) + names)
+            longer.section_headers[strings.index] = strings.replace(sh_offset=len(elf.bytes), sh_size=strings.sh_size + len(names))
+            longer.syms[symbol.index] = symbol.replace(st_name=strings.sh_size + names.rindex(b'__'))
             self.assertEqual((facts(longer)['canary'], facts(longer)['unknown']), expected)
 
     def test_headers_past_those_that_are_read(self):
@@ -187,21 +188,21 @@ class Facts(unittest.TestCase):
         """A section, a segment or a symbol is looked for in at most 16,777,216, and a canary in 1 GiB of strings. (A sparse file may have more.)"""
         elf = changed('facts/object')
         table = elf.section_by_type(SHT_SYMTAB)
-        more = Elf(bytearray(elf.bytes) + bytes(table.bytes) + bytes(12 * 24))
-        more.sections[table.index] = table._replace(sh_offset=len(elf.bytes), sh_size=table.sh_size + 12 * 24)
-        self.assertEqual((len(more.sections), len(more.symbols), SEARCHED, marks.STRINGS), (13, 20, 1 << 24, 1 << 30))
+        more = Elf(bytearray(elf.bytes) + bytes(table.data) + bytes(12 * 24))
+        more.section_headers[table.index] = table.replace(sh_offset=len(elf.bytes), sh_size=table.sh_size + 12 * 24)
+        self.assertEqual((len(more.section_headers), len(more.syms), SEARCHED, marks.STRINGS), (13, 20, 1 << 24, 1 << 30))
         by_section = ['build_id', 'soname', 'rpath', 'runpath', 'needed', 'canary', 'control_flow', 'compilers', 'stripped', 'symbols',
                       'dynamic_symbols']
         for module, name, most, unknown in ((facts_module, 'SEARCHED', 20, []), (facts_module, 'SEARCHED', 19, ['canary']),
-                                            (facts_module, 'SEARCHED', 12, by_section), (marks, 'STRINGS', table.linked.sh_size, []),
-                                            (marks, 'STRINGS', table.linked.sh_size - 1, ['canary'])):
+                                            (facts_module, 'SEARCHED', 12, by_section), (marks, 'STRINGS', table.linked_section.sh_size, []),
+                                            (marks, 'STRINGS', table.linked_section.sh_size - 1, ['canary'])):
             with unittest.mock.patch.object(module, name, most):
                 self.assertEqual((facts(more)['canary'], facts(more)['unknown']), (None if unknown else True, unknown))
         stripped = changed('made/x86_64_stripped')
         linked = ['soname', 'rpath', 'runpath', 'needed', 'pie', 'relro', 'bind_now']
         for most, unknown in ((8, ['canary']), (7, [*linked, 'canary'])):
             with unittest.mock.patch.object(facts_module, 'SEARCHED', most):
-                self.assertEqual((len(stripped.segments), facts(stripped)['unknown']), (8, unknown))
+                self.assertEqual((len(stripped.program_headers), facts(stripped)['unknown']), (8, unknown))
 
     def test_more_sections_than_the_header_counts(self):
         count = 0xff10
@@ -237,8 +238,8 @@ class Facts(unittest.TestCase):
         # the name is that of a symbol, and all of it
         for change, expected in ((lambda name: name, True), (lambda name: name + 1, False), (lambda name: 0, False)):
             elf = changed('facts/object')
-            symbol = elf.symbols.find('__stack_chk_fail@GLIBC_2.4')
-            elf.symbols[symbol.index] = symbol._replace(st_name=change(symbol.st_name))
+            symbol = elf.syms.symbol_by_name('__stack_chk_fail@GLIBC_2.4')
+            elf.syms[symbol.index] = symbol.replace(st_name=change(symbol.st_name))
             self.assertEqual((facts(elf)['canary'], facts(elf)['unknown']), (expected, []))
         for name, expected in (('fail', True), ('fail_local', True), ('guard', True), ('guard@@A', True), ('failed', False), ('guards@A', False)):
             elf = changed('facts/object')
@@ -246,13 +247,13 @@ class Facts(unittest.TestCase):
             self.assertEqual(facts(elf)['canary'], expected)
         # (the first of these names in the strings may be that of no symbol)
         whole = changed('facts/object')
-        symbol, strings = whole.symbols.find('__stack_chk_fail@GLIBC_2.4'), whole.section_by_type(SHT_SYMTAB).linked
-        more = Elf(bytearray(whole.bytes) + bytes(strings.bytes) + b'__stack_chk_guard\0')
-        more.sections[strings.index] = strings._replace(sh_offset=len(whole.bytes), sh_size=strings.sh_size + 18)
-        more.symbols[symbol.index] = symbol._replace(st_name=strings.sh_size)
+        symbol, strings = whole.syms.symbol_by_name('__stack_chk_fail@GLIBC_2.4'), whole.section_by_type(SHT_SYMTAB).linked_section
+        more = Elf(bytearray(whole.bytes) + bytes(strings.data) + b'__stack_chk_guard\0')
+        more.section_headers[strings.index] = strings.replace(sh_offset=len(whole.bytes), sh_size=strings.sh_size + 18)
+        more.syms[symbol.index] = symbol.replace(st_name=strings.sh_size)
         self.assertEqual(facts(more)['canary'], True)
         table = elf.section_by_type(SHT_SYMTAB)
-        elf.sections[table.index] = table._replace(sh_type=1)
+        elf.section_headers[table.index] = table.replace(sh_type=1)
         self.assertEqual((facts(elf)['canary'], facts(elf)['unknown']), (None, ['canary']))
 
     def test_what_the_dynamic_section_says(self):
@@ -262,28 +263,28 @@ class Facts(unittest.TestCase):
                                      (24, 0, ('library', False, True, 'full')), (30, 1 << 27, ('library', False, False, 'partial'))):
             elf = changed('facts/full')
             place = of_type(elf, PT_DYNAMIC).p_offset
-            places = [place + 16 * entry.index for entry in elf.dynamic if entry.tag in (21, 30, 0x6ffffffb)]
+            places = [place + 16 * entry.index for entry in elf.dynamic_section if entry.d_tag in (21, 30, 0x6ffffffb)]
             for at, number in zip(places, (tag, 0x60000000, 0x60000000)):
                 elf.put_number(at, 8, number)
                 elf.put_number(at + 8, 8, value)
             self.assertEqual(tuple(facts(elf)[name] for name in ('kind', 'pie', 'bind_now', 'relro')), expected)
-        elf.put_header(elf.header._replace(e_type=0xfe00))
+        elf.put_header(elf.header.replace(e_type=0xfe00))
         self.assertEqual((facts(elf)['kind'], facts(elf)['nx'], facts(elf)['unknown']), ('other', None, []))
 
     def test_slots(self):
         """PT_GNU_RELRO holds a slot exactly if it holds all of its bytes. The table has files whose slots were written at run time."""
         for name in ('closed_slots', 'closed_slots_pie', 'full'):
             elf = changed(f'facts/{name}')
-            tables = [section.relocations for section in elf.sections if section.sh_type == SHT_RELA]
+            tables = [section.relocs for section in elf.section_headers if section.sh_type == SHT_RELA]
             slots = [slot.r_offset for table in tables for slot in table if slot.r_type in (7, 37)]
             first, last = min(slots), max(slots)
             for start, end, expected in ((first, last + 8, 'full'), (first + 1, last + 8, 'partial'), (first, last + 7, 'partial')):
                 replace(elf, PT_GNU_RELRO, p_vaddr=start, p_memsz=end - start)
                 self.assertEqual((facts(elf)['relro'], facts(elf)['bind_now']), (expected, True if name == 'full' else None))
             # (of two loaders take the last one)
-            held, empty = of_type(elf, PT_GNU_RELRO)._replace(p_memsz=last + 8 - first), of_type(elf, PT_GNU_STACK)._replace(p_type=PT_GNU_RELRO)
+            held, empty = of_type(elf, PT_GNU_RELRO).replace(p_memsz=last + 8 - first), of_type(elf, PT_GNU_STACK).replace(p_type=PT_GNU_RELRO)
             for earlier, later, expected in ((empty, held, 'full'), (held, empty, 'partial')):
-                elf.segments[empty.index], elf.segments[held.index] = earlier, later
+                elf.program_headers[empty.index], elf.program_headers[held.index] = earlier, later
                 self.assertEqual((empty.index < held.index, facts(elf)['relro']), (True, expected))
 
     def test_slots_that_are_unknown(self):
@@ -291,7 +292,7 @@ class Facts(unittest.TestCase):
         elf = changed('facts/closed_slots')
         self.assertEqual((facts(elf)['relro'], facts(elf)['unknown']), ('full', ['canary']))
         for changes in ({'e_shoff': 0, 'e_shnum': 0, 'e_shstrndx': 0}, {'e_machine': EM_MIPS}):
-            elf.put_header(elf.header._replace(**changes))
+            elf.put_header(elf.header.replace(**changes))
             self.assertIn('relro', facts(elf)['unknown'])
             elf = changed('facts/closed_slots')
         replace(elf, PT_GNU_STACK, p_type=PT_INTERP, p_filesz=1)
@@ -300,7 +301,7 @@ class Facts(unittest.TestCase):
         for fields, expected in (({'sh_flags': 0}, 'full'), ({'sh_offset': 1 << 40}, None)):
             elf = changed('facts/open_slots')
             section = elf.section_by_type(SHT_RELA)
-            elf.sections[section.index] = section._replace(**fields)
+            elf.section_headers[section.index] = section.replace(**fields)
             self.assertEqual(facts(elf)['relro'], expected)
         for tag, value in ((DT_JMPREL, 1 << 40), (DT_PLTRELSZ, 1 << 40)):
             elf = changed('facts/closed_slots_pie')
@@ -320,9 +321,9 @@ class Facts(unittest.TestCase):
             elf = changed('facts/open_slots')
             section = elf.section_by_type(SHT_RELA)
             for other, expected in ((kind, 'partial'), (kind + 1, 'full')):
-                relocation = section.relocations[0]
-                section.relocations[0] = relocation._replace(r_type=other)
-                elf.put_header(changed('facts/open_slots').header._replace(e_machine=machine))
+                relocation = section.relocs[0]
+                section.relocs[0] = relocation.replace(r_type=other)
+                elf.put_header(changed('facts/open_slots').header.replace(e_machine=machine))
                 self.assertEqual(facts(elf)['relro'], expected, machine)
 
     def test_marks(self):
@@ -335,7 +336,7 @@ class Facts(unittest.TestCase):
                 elf = changed(name)
                 desc = b''.join(struct.pack(order + 'III', *one).ljust(12 + (-4 % wide), b'\0') for one in properties)
                 longer = Elf(bytearray(elf.bytes) + struct.pack(order + 'III', 4, len(desc), 5) + b'GNU\0' + desc)
-                longer.put_header(longer.header._replace(e_machine=machine))
+                longer.put_header(longer.header.replace(e_machine=machine))
                 replace(longer, PT_NOTE, p_offset=len(elf.bytes), p_filesz=16 + len(desc), p_align=wide)
                 self.assertEqual(facts(longer)['control_flow'], expected)
         elf = changed('facts/full')
@@ -356,7 +357,7 @@ class Facts(unittest.TestCase):
 
     def test_compilers(self):
         elf = changed('facts/two_compilers')
-        comment = bytes(elf.section('.comment').bytes)
+        comment = bytes(elf.section_by_name('.comment').data)
         put(elf, comment, b'two\0LLD 9\0GNU ld 1\0one\0two\0GNU gold\0mold 1\0\xff'.ljust(len(comment), b'\0'))
         self.assertEqual(facts(elf)['compilers'], ['two', 'one', '\udcff'])
 

@@ -31,7 +31,7 @@ import zlib
 
 import made
 from goblin_elf import scan as module
-from goblin_elf import workers
+from goblin_elf import _workers as workers
 from goblin_elf._library import LIBRARY
 
 try:
@@ -930,7 +930,7 @@ class Workers(Folder):
         (_, found), = workers.Workers(take_memory, 1, 256 << 20).results(iter([['128', '512']]))
         self.assertEqual(found, ['128', 'MemoryError'])
         # (a batch whose results do not fit into a message is divided, and no worker prints anything)
-        script = 'import test_scan, sys; from goblin_elf import workers; ' \
+        script = 'import test_scan, sys; from goblin_elf import _workers as workers; ' \
                  'print([len(*found) for _, found in workers.Workers(test_scan.zeros, 1, 256 << 20).results(iter([["60", "61"]]))])'
         said = subprocess.run([sys.executable, '-c', script], stdout=subprocess.PIPE, stderr=subprocess.STDOUT, universal_newlines=True,
                               env={**os.environ, 'PYTHONPATH': os.pathsep.join(filter(None, sys.path))}).stdout
@@ -979,7 +979,7 @@ class Workers(Folder):
         """Whatever ends it, and though they examine a file."""
         for number in (signal.SIGTERM, signal.SIGKILL):
             begun = self.out(f'begun by {number}')
-            script = 'import test_scan; from goblin_elf import workers; ' \
+            script = 'import test_scan; from goblin_elf import _workers as workers; ' \
                      f'list(workers.Workers(test_scan.wait, 1, 1 << 30).results(iter([[{begun!r}]])))'
             running = subprocess.Popen([sys.executable, '-c', script], stderr=subprocess.PIPE,
                                        env={**os.environ, 'PYTHONPATH': os.pathsep.join(filter(None, sys.path))})
