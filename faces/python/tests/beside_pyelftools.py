@@ -2,17 +2,14 @@
 """Compares goblin_elf with pyelftools: beside_pyelftools.py [--files N] [--damaged N] [DIR ..]
 
 It reads N whole ELF files of the folders (default: 40 of this machine's) by both and compares headers, sections, segments, symbols with
-their names, relocations, notes, and what the dynamic section says. Then it reads N damaged or cut files by both: goblin_elf must return
-records or raise Refused. What pyelftools does is counted. With --sums FILE .. it prints the sums of what pyelftools reads that test_stored.py
-compares.
+their names, relocations, notes, and what the dynamic section says. Then it reads N damaged or cut files, of which goblin_elf must return
+records or raise Refused. With --sums FILE .. it prints the sums of what pyelftools reads that test_stored.py compares.
 """
 import argparse
 import collections
 import io
 import itertools
 import os
-import signal
-import time
 
 from elftools.elf import enums
 from elftools.elf.elffile import ELFFile
@@ -21,8 +18,7 @@ from elftools.elf.relocation import RelocationSection
 from elftools.elf.sections import NoteSection, SymbolTableSection
 from elftools.elf.segments import InterpSegment, NoteSegment
 
-from goblin_elf import Elf, Refused
-from goblin_elf._facts import facts
+from goblin_elf import Refused
 
 import made
 from parts import PARTS, Ours, OursWhole, content_of, damaged, elf_files, made_files, read_by, sum_of
@@ -122,46 +118,19 @@ def compare(contents):
     return different
 
 
-class TooLong(BaseException):
-    """pyelftools takes more than a second."""
-
-
-def stopped(*_):
-    raise TooLong
-
-
-def compare_damaged(count, sources, seed):
-    """Reads damaged files by both."""
-    ours, theirs, taken = collections.Counter(), collections.Counter(), [0.0, 0.0]
-    signal.signal(signal.SIGALRM, stopped)
-    for content in damaged(count, sources, seed):
-        start = time.perf_counter()
+def not_refused(contents):
+    """Counts those damaged files of which goblin_elf neither returns each part nor refuses it, and leaves one in a file."""
+    wrong = 0
+    for content in contents:
         found = [read_by(Ours, content, part) for part in PARTS]
         found += [read_by(OursWhole, content, part) for part in ('whole_sections', 'whole_segments')]
-        try:
-            facts(Elf(content))
-        except Refused:
-            pass
-        taken[0] += time.perf_counter() - start
-        wrong = [result for result in found if isinstance(result, Exception) and not isinstance(result, Refused)]
-        if wrong:
-            print('not refused:', repr(wrong[0]))
+        errors = [result for result in found if isinstance(result, Exception) and not isinstance(result, Refused)]
+        if errors:
+            wrong += 1
+            print('not refused:', repr(errors[0]))
             with open(os.path.join(os.environ.get('TMPDIR', '/tmp'), 'not_refused'), 'wb') as file:
                 file.write(content)
-        ours['other exceptions' if wrong else 'refused' if any(isinstance(result, Refused) for result in found) else 'read'] += 1
-        start = time.perf_counter()
-        signal.setitimer(signal.ITIMER_REAL, 1)
-        try:
-            results = [read_by(Theirs, io.BytesIO(content), part) for part in PARTS]
-            signal.setitimer(signal.ITIMER_REAL, 0)
-            kinds = {type(result).__name__ for result in results if isinstance(result, Exception)} or {'read'}
-        except TooLong:
-            kinds = {'TooLong'}
-        signal.setitimer(signal.ITIMER_REAL, 0)
-        theirs.update(kinds)
-        taken[1] += time.perf_counter() - start
-    print(f'{count} damaged files: goblin_elf {dict(ours)} in {taken[0]:.1f} s; pyelftools {dict(theirs)} in {taken[1]:.1f} s')
-    return ours['other exceptions']
+    return wrong
 
 
 # What it reads otherwise: relocations with three types, and bytes that are not in the file.
@@ -188,7 +157,7 @@ def main():
     paths = elf_files(options.folders, options.files)
     different = compare(itertools.chain(made_files(), ((path, content_of(path)) for path in paths)))
     sources = [file.bytes for file in made.ALL] + [content_of(path) for path in paths if os.path.getsize(path) < 100000][:20]
-    wrong = compare_damaged(options.damaged, sources, options.seed)
+    wrong = not_refused(damaged(options.damaged, sources, options.seed))
     print(f'pyelftools: {sum(different.values())} differences in {len(paths)} files; {wrong} damaged files raise another exception than Refused')
 
 

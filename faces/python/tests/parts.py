@@ -3,6 +3,7 @@ import hashlib
 import os
 import random
 import resource
+import threading
 
 from goblin_elf import PT_DYNAMIC, SHT_DYNSYM, SHT_NOTE, SHT_REL, SHT_RELA, SHT_SYMTAB, Elf
 from goblin_elf._facts import facts
@@ -106,6 +107,14 @@ def elf_files(folders, count):
 def limit_memory():
     """Lets this process take little memory."""
     resource.setrlimit(resource.RLIMIT_DATA, (256 << 20, 256 << 20))
+
+
+def started(function, arguments):
+    """Returns threads that run a function, each with an argument."""
+    threads = [threading.Thread(target=function, args=(argument,)) for argument in arguments]
+    for thread in threads:
+        thread.start()
+    return threads
 
 
 def stored(name):

@@ -171,20 +171,6 @@ class Hostile(unittest.TestCase):
         self.assertEqual((found.stdout.split(), found.stderr), (expected, ''))
 
 
-def library(*names):
-    """Returns a library for x86-64 that has only entries of the dynamic section, which name texts."""
-    strings, entries, start = b'\0', [], 64 + 2 * 56
-    for tag, text in names:
-        entries.append((tag, len(strings)))
-        strings += text.encode() + b'\0'
-    at = start + 16 * (len(entries) + 3)
-    dynamic = b''.join(struct.pack('<QQ', *entry) for entry in [*entries, (DT.DT_STRTAB, at), (DT.DT_STRSZ, len(strings)), (0, 0)])
-    header = struct.pack('<4s12B2HI3QI6H', b'\x7fELF', 2, 1, 1, *bytes(9), 3, 62, 1, 0, 64, 0, 0, 64, 56, 2, 64, 0, 0)
-    segments = [struct.pack('<2I6Q', kind, 4, offset, offset, offset, size, size, 8) for kind, offset, size in
-                [(1, 0, at + len(strings)), (2, start, len(dynamic))]]
-    return header + b''.join(segments) + dynamic + strings
-
-
 class Example(unittest.TestCase):
     script = os.path.join(FOLDER, '..', 'examples', 'lddtree.py')
     # (the example must not search the user's folders, but Python itself may need them)
@@ -192,7 +178,7 @@ class Example(unittest.TestCase):
 
     def test_lddtree_finds_what_ld_so_finds(self):
         """What ldd finds of libraries that gcc made with these names and paths, and for ld.so.conf, what its manual page says."""
-        needed, soname, rpath, runpath = (lambda text, tag=tag: (tag, text) for tag in (DT_NEEDED, DT_SONAME, DT.DT_RPATH, DT.DT_RUNPATH))
+        needed, soname, rpath, runpath = (lambda text, tag=tag: (tag, text.encode()) for tag in (DT_NEEDED, DT_SONAME, DT.DT_RPATH, DT.DT_RUNPATH))
         files = {
             # (one is loaded already by its own name, another one for a program above, beside whose DT_RUNPATH its DT_RPATH does not count)
             'prog': [*map(needed, ('libmid.so', 'libone.so', 'libset.so', 'libmore.so')), rpath('/a')],
@@ -205,7 +191,7 @@ class Example(unittest.TestCase):
             for name, names in files.items():
                 os.makedirs(os.path.dirname(os.path.join(root, name)), exist_ok=True)
                 with open(os.path.join(root, name), 'wb') as file:
-                    file.write(library(*names))
+                    file.write(made.linked(*names))
             os.makedirs(os.path.join(root, 'etc/conf.d'))
             for name, text in (('ld.so.conf', 'include conf.d/*.conf # more\n\n/usr/local/lib\n'),
                                ('conf.d/opt.conf', '/opt/lib\ninclude /etc/ld.so.conf\n')):

@@ -4,13 +4,13 @@ FUZZ is how many files are tried, by default 300.
 """
 import os
 import random
-import threading
 import unittest
 
 from goblin_elf import Dynamic, Elf, Header, Kind, Notes, Refused, Relocations, Strings, Symbols
 from goblin_elf._facts import facts
 
 import made
+from parts import started
 
 COUNT = int(os.environ.get('FUZZ', 300))
 
@@ -157,10 +157,7 @@ class Fuzz(unittest.TestCase):
 
         for file in made.ALL:
             elf = Elf(file.bytes)
-            threads = [threading.Thread(target=read, args=(seed, elf)) for seed in range(8)]
-            for thread in threads:
-                thread.start()
-            for thread in threads:
+            for thread in started(lambda seed: read(seed, elf), range(8)):
                 thread.join()
         self.assertEqual(wrong, [])
 

@@ -1,5 +1,6 @@
 """Tests of goblin_elf over made files, whose values are those that the System V gABI gives their bytes, and over a stored program."""
 import base64
+import contextlib
 import copy
 import ctypes
 import gc
@@ -14,7 +15,6 @@ import signal
 import subprocess
 import sys
 import tempfile
-import threading
 import tracemalloc
 import typing
 import unittest
@@ -28,7 +28,7 @@ from goblin_elf import __main__ as program
 from goblin_elf import _library, constants
 
 import made
-from parts import limit_memory
+from parts import limit_memory, started
 
 try:
     import numpy
@@ -49,8 +49,17 @@ def refusal(function, *arguments):
     raise AssertionError('it is not refused')
 
 
+@contextlib.contextmanager
+def in_file(content):
+    """Yields a file on the disk that has some bytes."""
+    with tempfile.NamedTemporaryFile() as file:
+        file.write(content)
+        file.flush()
+        yield file
+
+
 class Read(unittest.TestCase):
-    """Each kind of item of the made files, of both classes and byte orders."""
+    """Each kind of item of the made files, of both classes and byte orders. (That each field is what pyelftools reads is in test_stored.py.)"""
 
     def each(self):
         return [(file, Elf(file.bytes)) for file in made.ALL]
@@ -58,9 +67,7 @@ class Read(unittest.TestCase):
     def test_header(self):
         for file, elf in self.each():
             header = elf.header
-            self.assertEqual((header.e_entry, header.e_phoff, header.e_shoff, header.e_machine), (0x1004, file.phoff, file.shoff, 62))
-            self.assertEqual((header.e_phnum, header.e_shnum, header.e_shstrndx, header.ei_osabi), (2, 9, 8, 3))
-            self.assertEqual((elf.is_64, elf.little_endian), (file.bits == 64, file.order == '<'))
+            self.assertEqual((header.ei_osabi, elf.is_64, elf.little_endian), (3, file.bits == 64, file.order == '<'))
             self.assertEqual(repr(elf), f'<Elf: ELF{file.bits} REL X86_64, {len(file.bytes)} bytes>')
             self.assertEqual(bytes(elf.bytes), file.bytes)
             # (what is read would still be that of the file)
@@ -70,46 +77,33 @@ class Read(unittest.TestCase):
 
     def test_sections(self):
         for file, elf in self.each():
-            self.assertEqual([section.name for section in elf.section_headers], list(made.NAMES))
-            self.assertEqual(elf.section_headers.names(), list(made.NAMES))
-            text = elf.section_by_name('.text')
-            self.assertEqual((text.index, text.sh_type, text.sh_flags, text.sh_addr, text.sh_addralign),
-                             (1, SHT_PROGBITS, SHF_ALLOC | SHF_EXECINSTR, 0x1000, 16))
-            self.assertEqual((text.sh_offset, text.sh_size), file.offsets['.text'])
-            self.assertEqual((bytes(text.data), goblin_elf.sht_to_str(text.sh_type)), (made.TEXT, 'SHT_PROGBITS'))
-            symbols = elf.section_by_name(b'.symtab')
-            self.assertEqual((symbols.index, symbols.sh_link, symbols.sh_info, symbols.linked_section.name), (2, 3, 3, '.strtab'))
-            self.assertEqual(symbols.sh_entsize, file.size(made.SYM))
-            zeros = elf.section_headers[-2]
+            self.assertEqual([[section.name for section in elf.section_headers], elf.section_headers.names()], [list(made.NAMES)] * 2)
+            text, symbols, zeros = elf.section_by_name('.text'), elf.section_by_name(b'.symtab'), elf.section_headers[-2]
+            self.assertEqual((text, text.index, bytes(text.data), goblin_elf.sht_to_str(text.sh_type)),
+                             (elf.section_headers[1], 1, made.TEXT, 'SHT_PROGBITS'))
+            self.assertEqual((symbols.index, symbols.linked_section.name), (2, '.strtab'))
             self.assertEqual((zeros.name, len(zeros.data), zeros.sh_size, zeros.linked_section), ('.bss', 0, 0x100, None))
             self.assertEqual((len(zeros.notes), zeros.strtab.get(0), refusal(zeros.number, 0, 1).kind), (0, None, Kind.BAD_OFFSET))
-            self.assertIsNone(elf.section_by_name('.debug'))
-            self.assertIsNone(elf.section_by_name('.text', 2))
-            self.assertEqual(elf.section_by_type(SHT_SYMTAB).name, '.symtab')
-            self.assertEqual([elf.section_by_type(3, first).index for first in (0, 3, 4, 8)], [3, 3, 8, 8])
-            self.assertIsNone(elf.section_by_type(3, 9))
+            self.assertEqual((elf.section_by_name('.debug'), elf.section_by_name('.text', 2), elf.section_by_type(3, 9)), (None, None, None))
+            self.assertEqual([elf.section_by_type(*given).index for given in ((SHT_SYMTAB,), (3, 0), (3, 3), (3, 4), (3, 8))], [2, 3, 3, 8, 8])
 
     def test_segments(self):
         for file, elf in self.each():
             load, note = elf.program_headers
-            self.assertEqual((load.p_type, load.p_flags, load.p_vaddr, load.p_paddr, load.p_memsz, load.p_align),
-                             (1, 5, 0x1000, 0x1000, 0x100, 4))
-            self.assertEqual(((load.p_offset, load.p_filesz), goblin_elf.pt_to_str(note.p_type)), (file.offsets['.text'], 'PT_NOTE'))
+            self.assertEqual((load.p_offset, goblin_elf.pt_to_str(note.p_type)), (file.offsets['.text'][0], 'PT_NOTE'))
             self.assertEqual((bytes(load.data), load.p_flags & PF_X), (made.TEXT, 1))
             self.assertEqual((elf.address_to_offset(0x1010), elf.address_to_offset(0xfff)), (load.p_offset + 16, None))
 
     def test_symbols(self):
         for _, elf in self.each():
-            found = [(s.name, s.st_value, s.st_size, s.st_shndx, s.st_bind, s.st_type, s.st_visibility) for s in elf.syms]
-            self.assertEqual(found, list(made.SYMBOLS))
-            self.assertEqual(elf.syms.names(), [symbol[0] for symbol in made.SYMBOLS])
-            main = elf.syms.symbol_by_name('main')
+            names = [symbol[0] for symbol in made.SYMBOLS]
+            self.assertEqual(([symbol.name for symbol in elf.syms], elf.syms.names()), (names, names))
+            main, strings = elf.syms.symbol_by_name('main'), elf.section_by_name('.strtab').strtab
             self.assertEqual((main.index, main.st_type, main.st_bind), (1, STT_FUNC, goblin_elf.STB_GLOBAL))
             self.assertEqual((elf.syms[3].st_visibility, elf.syms.symbol_by_name('été').index), (goblin_elf.STV_HIDDEN, 5))
-            self.assertEqual((elf.syms.symbol_by_name('main', 1), elf.syms.symbol_by_name('main', 2)), (main, None))
-            self.assertIsNone(elf.syms.symbol_by_name('absent'))
-            self.assertEqual(elf.section_by_name('.strtab').strtab.get(main.st_name), 'main')
-            self.assertEqual(elf.section_by_name('.strtab').strtab.get_bytes(main.st_name + 1), b'ain')
+            found = [elf.syms.symbol_by_name(*given) for given in (('main', 1), ('main', 2), ('absent',))]
+            self.assertEqual(found, [main, None, None])
+            self.assertEqual((strings.get(main.st_name), strings.get_bytes(main.st_name + 1)), ('main', b'ain'))
             self.assertEqual((len(elf.dynsyms), elf.dynsyms.symbol_by_name('main')), (0, None))
 
     def test_symbol_of_an_address(self):
@@ -117,30 +111,32 @@ class Read(unittest.TestCase):
         for address, name in [(0x1003, None), (0x1004, 'main'), (0x100b, 'main'), (0x100c, None), (0x1010, 'label'), (0x101f, 'label'),
                               (0x1020, 'outer'), (0x1028, 'inner'), (0x102c, 'outer'), (0x1040, None), (0x400f, 'été'), (0x4010, None)]:
             for _, elf in self.each():
-                found = Elf(elf.bytes, elf.header.replace(e_type=goblin_elf.ET_DYN)).symbol_by_address(address)
-                self.assertEqual(found and found.name, name, hex(address))
+                loaded = Elf(elf.bytes, elf.header.replace(e_type=goblin_elf.ET_DYN))
+                found = [symbol and symbol.name for symbol in (loaded.symbol_by_address(address), elf.symbol_by_address(address))]
                 # (the file itself is relocatable, so the label would be at an offset of 0x1010, which is past its section)
-                of_object = elf.symbol_by_address(address)
-                self.assertEqual(of_object and of_object.name, None if name == 'label' else name, hex(address))
+                self.assertEqual(found, [name, None if name == 'label' else name], hex(address))
 
     def test_relocations(self):
         for _, elf in self.each():
             for name, has in [('.rela.text', True), ('.rel.text', False)]:
                 table = elf.section_by_name(name).relocs
                 expected = [(offset, symbol, addend if has else None, kind) for offset, symbol, kind, addend in made.RELOCATIONS]
-                self.assertEqual([tuple(relocation.as_dict().values()) for relocation in table], expected)
-                self.assertEqual([tuple(table[index].as_dict().values()) for index in range(2)], expected)
+                for relocations in (list(table), [table[0], table[1]]):
+                    self.assertEqual([tuple(relocation.as_dict().values()) for relocation in relocations], expected)
                 self.assertEqual([relocation.symbol.name for relocation in table], ['main', 'outer'])
 
     def test_notes(self):
         for _, elf in self.each():
             for notes in (elf.notes, elf.section_by_name('.note.gnu.build-id').notes, elf.program_headers[1].notes):
-                self.assertEqual([(note.n_type, note.name, bytes(note.desc)) for note in notes], [(3, 'GNU', made.BUILD_ID)])
+                self.assertEqual(self.words(notes), [(3, 'GNU', made.BUILD_ID)])
             self.assertEqual((elf.build_id, elf.build_id.hex()), (made.BUILD_ID, made.BUILD_ID.hex()))
             # (it may be in a section alone, though there is a segment of notes)
             changed = Elf(bytearray(elf.bytes))
             changed.program_headers[1] = changed.program_headers[1].replace(p_filesz=0)
             self.assertEqual((list(changed.notes), changed.build_id), ([], made.BUILD_ID))
+
+    def words(self, notes):
+        return [(note.n_type, note.name, bytes(note.desc)) for note in notes]
 
     def test_notes_of_any_names(self):
         """Those of annobin and of Go's linker: readelf -n names the owners GA*FORTIFY:0xff, \\xff, Go and GNU."""
@@ -156,15 +152,14 @@ class Read(unittest.TestCase):
             for index, (offset, size) in zip((4, 5), places):
                 changed.section_headers[index] = changed.section_headers[index].replace(sh_type=7, sh_offset=offset, sh_size=size, sh_addralign=4)
             changed.program_headers[1] = changed.program_headers[1].replace(p_offset=places[1][0], p_filesz=places[1][1])
-            words = lambda notes: [(note.n_type, note.name, bytes(note.desc)) for note in notes]
             any_names, of_go = [(0x100, 'GA*FORTIFY\0\udcff', b'at'), (3, '\udcff', b'')], [(4, 'Go', b'of Go')]
-            self.assertEqual(words(changed.section_headers[4].notes), any_names)
+            self.assertEqual(self.words(changed.section_headers[4].notes), any_names)
             self.assertEqual(changed.section_headers[4].notes[0].name.encode('utf-8', 'surrogateescape'), b'GA*FORTIFY\0\xff')
             for notes in (changed.notes, changed.program_headers[1].notes, changed.section_headers[5].notes):
-                self.assertEqual(words(notes), of_go)
+                self.assertEqual(self.words(notes), of_go)
             self.assertEqual(changed.build_id, made.BUILD_ID)
             changed.program_headers[1] = changed.program_headers[1].replace(p_type=1)
-            self.assertEqual(words(changed.notes), [*any_names, *of_go, (3, 'GNU', made.BUILD_ID)])
+            self.assertEqual(self.words(changed.notes), [*any_names, *of_go, (3, 'GNU', made.BUILD_ID)])
             # (a name or descriptor past the end of its section is damage, whatever the name)
             for at, kind in ((0, Kind.TOO_BIG), (4, Kind.BAD_OFFSET)):
                 damaged = Elf(bytearray(content))
@@ -174,12 +169,10 @@ class Read(unittest.TestCase):
 
     def test_numbers(self):
         for file, elf in self.each():
-            size = file.bits // 8
-            self.assertEqual((elf.number(18, 2), elf.number(24, size), elf.number(4, 1)), (62, 0x1004, file.bits // 32))
-            expected = 0x13121110 if file.order == '<' else 0x10111213
-            self.assertEqual((elf.section_by_name('.text').number(16, 4), elf.program_headers[0].number(16, 4)), (expected, expected))
-            self.assertEqual(refusal(elf.section_by_name('.text').number, 126, 4).kind, Kind.TOO_BIG)
-            self.assertEqual(refusal(elf.number, len(file.bytes), 1).kind, Kind.BAD_OFFSET)
+            text, expected = elf.section_by_name('.text'), 0x13121110 if file.order == '<' else 0x10111213
+            self.assertEqual((elf.number(18, 2), elf.number(24, file.bits // 8), elf.number(4, 1)), (62, 0x1004, file.bits // 32))
+            self.assertEqual((text.number(16, 4), elf.program_headers[0].number(16, 4)), (expected, expected))
+            self.assertEqual((refusal(text.number, 126, 4).kind, refusal(elf.number, len(file.bytes), 1).kind), (Kind.TOO_BIG, Kind.BAD_OFFSET))
             for width in (0, 3, 16):
                 self.assertRaises(ValueError, elf.number, 0, width)
 
@@ -602,9 +595,7 @@ class Written(unittest.TestCase):
         self.assertRaises(TypeError, lambda: elf.bytes.__setitem__(0, 1))
 
     def test_mapped_file(self):
-        with tempfile.NamedTemporaryFile() as file:
-            file.write(MADE.bytes)
-            file.flush()
+        with in_file(MADE.bytes) as file:
             symbols = Elf(mmap.mmap(file.fileno(), 0)).syms
             symbols[1] = symbols[1].replace(st_size=9)
             with open(file.name, 'rb') as again:
@@ -617,9 +608,7 @@ class Memory(unittest.TestCase):
     def test_views_hold_the_file(self):
         # (a small file is read, and the other one mapped)
         for content in (MADE.bytes, MADE.bytes.ljust(1 << 16, b'\0')):
-            with tempfile.NamedTemporaryFile() as file:
-                file.write(content)
-                file.flush()
+            with in_file(content) as file:
                 elf = Elf.open(file.name)
                 text, build_id, symbol, strings = elf.section_by_name('.text').data, elf.build_id, elf.syms[1], elf.section_by_name('.strtab').strtab
                 del elf
@@ -628,9 +617,7 @@ class Memory(unittest.TestCase):
             self.assertEqual((symbol.name, strings.get(1)), ('main', 'main'))
 
     def test_buffers_can_not_go(self):
-        with tempfile.NamedTemporaryFile() as file:
-            file.write(MADE.bytes)
-            file.flush()
+        with in_file(MADE.bytes) as file:
             mapped = mmap.mmap(file.fileno(), 0, access=mmap.ACCESS_READ)
             elf = Elf(mapped)
             self.assertRaises(BufferError, mapped.close)
@@ -646,9 +633,7 @@ class Memory(unittest.TestCase):
     def test_a_file_that_is_cut(self):
         # (a small file is read; the array of a mapped one has memory of its own)
         for content, copy in [(MADE.bytes, False), (MADE.bytes, True), (MADE.bytes.ljust(1 << 16, b'\0'), True)]:
-            with tempfile.NamedTemporaryFile() as file:
-                file.write(content)
-                file.flush()
+            with in_file(content) as file:
                 elf = Elf.open(file.name, copy=copy)
                 array = Elf.open(file.name).syms.array() if numpy else None
                 os.truncate(file.name, 0)
@@ -666,9 +651,7 @@ class Memory(unittest.TestCase):
                 self.assertEqual(refusal(Elf.open, file.name).kind, Kind.TOO_SMALL)
 
     def test_a_mapped_file_that_is_cut_ends_the_process(self):
-        with tempfile.NamedTemporaryFile() as file:
-            file.write(MADE.bytes.ljust(1 << 16, b'\0'))
-            file.flush()
+        with in_file(MADE.bytes.ljust(1 << 16, b'\0')) as file:
             script = f'import os; from goblin_elf import Elf; e = Elf.open({file.name!r}); os.truncate({file.name!r}, 0); list(e.section_headers)'
             self.assertEqual(subprocess.run([sys.executable, '-c', script]).returncode, -signal.SIGBUS)
 
@@ -696,10 +679,7 @@ class Memory(unittest.TestCase):
                 if refusal(Elf, bytes(16)).kind != Kind.BAD_MAGIC or elf.section_headers[1].name != '.text':
                     wrong.append(1)
 
-        threads = [threading.Thread(target=read) for _ in range(8)]
-        for thread in threads:
-            thread.start()
-        for thread in threads:
+        for thread in started(lambda _: read(), range(8)):
             thread.join()
         self.assertEqual(wrong, [])
 
@@ -845,10 +825,13 @@ class Wheel(unittest.TestCase):
 
 
 class Program(unittest.TestCase):
-    def run_it(self, *arguments):
-        found = subprocess.run([sys.executable, '-m', 'goblin_elf', *arguments], stdout=subprocess.PIPE, encoding='utf-8',
-                               env={**os.environ, 'PYTHONIOENCODING': 'utf-8'})
-        return found.returncode, found.stdout
+    COMMAND = [sys.executable, '-m', 'goblin_elf']
+
+    def run_it(self, *arguments, encoding='utf-8', **given):
+        """Runs it, and returns its exit status, what it printed, and what it said of errors."""
+        found = subprocess.run([*self.COMMAND, *arguments], stdout=given.pop('stdout', subprocess.PIPE), stderr=subprocess.PIPE, timeout=60,
+                               env={**os.environ, 'PYTHONIOENCODING': encoding}, **given)
+        return found.returncode, (found.stdout or b'').decode(encoding), found.stderr.decode()
 
     def test_files(self):
         with tempfile.TemporaryDirectory() as folder:
@@ -856,7 +839,7 @@ class Program(unittest.TestCase):
             for path, content in zip(paths, (MADE.bytes, bytes(16))):
                 with open(path, 'wb') as file:
                     file.write(content)
-            status, said = self.run_it(*paths)
+            status, said, _ = self.run_it(*paths)
             for line in ('  kind             object', '  class            ELF64', f'  build id         {made.BUILD_ID.hex()}',
                          '  entry            0x1004', '  symbols          7', '  stripped         no', '  code             128',
                          '  text             Invalid magic number: 0x0', '  refused          BAD_MAGIC',
@@ -868,32 +851,29 @@ class Program(unittest.TestCase):
             found = subprocess.run(leaves, shell=True, cwd=folder, stdout=subprocess.PIPE, stderr=subprocess.PIPE, universal_newlines=True)
             self.assertEqual((found.stdout, found.stderr), ('made.o\n', ''))
             # (whoever waits for it may end it by Ctrl-C, which a test in the background ignores: it has printed the first of many files)
-            running = subprocess.Popen([sys.executable, '-m', 'goblin_elf', *['made.o'] * 2000], cwd=folder, stdout=subprocess.PIPE,
-                                       stderr=subprocess.PIPE, preexec_fn=lambda: signal.signal(signal.SIGINT, signal.SIG_DFL))
+            running = subprocess.Popen([*self.COMMAND, *['made.o'] * 2000], cwd=folder, stdout=subprocess.PIPE, stderr=subprocess.PIPE,
+                                       preexec_fn=lambda: signal.signal(signal.SIGINT, signal.SIG_DFL))
             self.assertEqual(running.stdout.readline(), b'made.o\n')
             running.send_signal(signal.SIGINT)
             self.assertEqual((running.communicate(timeout=60)[1], running.returncode), (b'', -signal.SIGINT))
-            # (a stream that does not take each sign gets others)
-            found = subprocess.run([sys.executable, '-m', 'goblin_elf', 'made.o', 'odd\n', b'\xc3\xa9'], cwd=folder, stdout=subprocess.PIPE,
-                                   stderr=subprocess.PIPE, env={**os.environ, 'PYTHONIOENCODING': 'ascii'})
-            self.assertEqual((found.stdout.decode('ascii').split('\n')[0], b'\nodd?\n' in found.stdout, found.stderr), ('made.o', True, b''))
-            # (in the locale C the last name has two signs)
-            self.assertRegex(found.stdout, rb'\n\?\??\n')
+            # (a stream that does not take each sign gets others: in the locale C the last name has two signs)
+            _, said, errors = self.run_it('made.o', 'odd\n', b'\xc3\xa9', encoding='ascii', cwd=folder)
+            self.assertEqual((said.split('\n')[0], '\nodd?\n' in said, errors), ('made.o', True, ''))
+            self.assertRegex(said, r'\n\?\??\n')
             # (one that is full is said in a line)
             with open('/dev/full', 'w') as full:
-                found = subprocess.run([sys.executable, '-m', 'goblin_elf', *paths], stdout=full, stderr=subprocess.PIPE, universal_newlines=True)
-            self.assertEqual((found.returncode, found.stderr),
-                             (2, 'python -m goblin_elf: the output can not be written: No space left on device\n'))
+                self.assertEqual(self.run_it(*paths, stdout=full),
+                                 (2, '', 'python -m goblin_elf: the output can not be written: No space left on device\n'))
             # (as errors may be, and each may be closed)
             for command in ('> /dev/full 2>&1', '>&-', '>&- 2>&-'):
                 found = subprocess.run(f'{sys.executable} -m goblin_elf made.o {command}', shell=True, cwd=folder, stderr=subprocess.DEVNULL)
                 self.assertEqual(found.returncode, 2)
-            self.assertEqual(self.run_it(''), (1, '\n  error            No such file or directory\n'))
-            status, said = self.run_it('--json', *paths[:1])
+            self.assertEqual(self.run_it('')[:2], (1, '\n  error            No such file or directory\n'))
+            status, said, _ = self.run_it('--json', *paths[:1])
             found = json.loads(said)[0]
             self.assertEqual((status, found['type'], found['entry'], found['needed'], found['sizes']['code']), (0, 'REL', 0x1004, [], 128))
             # (strict readers refuse a surrogate without its pair, as that by which Python decodes a byte that is not UTF-8)
-            status, said = self.run_it('--json', b'caf\xe9 \xf0\x9f\x92\x80')
+            status, said, _ = self.run_it('--json', b'caf\xe9 \xf0\x9f\x92\x80')
             self.assertEqual((status, json.loads(said)[0]['file']), (1, 'caf\ufffd \U0001f480'))
 
     def test_what_is_no_ordinary_file(self):
@@ -904,13 +884,11 @@ class Program(unittest.TestCase):
                 file.write(MADE.bytes)
             os.mkfifo(paths[1])
             paths += ['/dev/zero', folder, '/proc/kmsg', paths[0]]
-            for more in ([], ['--json']):
-                found = subprocess.run([sys.executable, '-m', 'goblin_elf', *more, *paths], stdout=subprocess.PIPE, encoding='utf-8', timeout=60,
-                                       preexec_fn=limit_memory)
-                self.assertEqual(found.returncode, 1)
-            self.assertEqual([(row['file'], row.get('kind'), row.get('error') or row.get('refused')) for row in json.loads(found.stdout)],
-                             [(paths[0], 'object', None), *((path, None, 'it is no ordinary file') for path in paths[1:3]),
-                              (folder, None, 'Is a directory'), ('/proc/kmsg', None, 'TOO_SMALL'), (paths[0], 'object', None)])
+            self.assertEqual(self.run_it(*paths, preexec_fn=limit_memory)[0], 1)
+            status, said, _ = self.run_it('--json', *paths, preexec_fn=limit_memory)
+            self.assertEqual((status, [(row['file'], row.get('kind'), row.get('error') or row.get('refused')) for row in json.loads(said)]),
+                             (1, [(paths[0], 'object', None), *((path, None, 'it is no ordinary file') for path in paths[1:3]),
+                                  (folder, None, 'Is a directory'), ('/proc/kmsg', None, 'TOO_SMALL'), (paths[0], 'object', None)]))
 
     def test_numbers_without_a_name(self):
         """They stand after the word for it."""
@@ -933,9 +911,7 @@ class Program(unittest.TestCase):
         with open(os.path.join(FOLDER, '..', 'README.md'), encoding='utf-8') as file:
             rows = re.findall(r'^\|`([^|]*)`\|`([^|]*)`\|$', file.read(), re.M)
         self.assertEqual(len(rows), 11)
-        with tempfile.NamedTemporaryFile() as file:
-            file.write(MADE.bytes)
-            file.flush()
+        with in_file(MADE.bytes) as file:
             names = {**vars(goblin_elf), 'path': file.name}
             elf = names['elf'] = Elf.open(file.name)
             names.update(section=elf.section_by_name('.rela.text'), symbol=elf.syms[1], relocation=elf.section_by_name('.rela.text').relocs[0],
