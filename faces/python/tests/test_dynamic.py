@@ -242,7 +242,3 @@ class Example(unittest.TestCase):
                          [(0, ''), (1, 'refused: type is too big (384) for 40\n'), (0, ''), (1, '\\x1babsent: No such file or directory\n'),
                           (1, 'usage: lddtree.py FILE [ROOT]\n'), (1, 'refused: Malformed entity: Too small\n'),
                           *((1, f'{path}: it is no ordinary file\n') for path in ('/dev/zero', fifo)), (1, f'{odd}: No space left on device\n')])
-
-
-if __name__ == '__main__':
-    unittest.main()

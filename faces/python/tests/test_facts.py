@@ -363,7 +363,3 @@ def put(elf, old, new):
     start = bytes(elf.bytes).index(old)
     for index, byte in enumerate(new):
         elf.put_number(start + index, 1, byte)
-
-
-if __name__ == '__main__':
-    unittest.main()

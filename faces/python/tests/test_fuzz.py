@@ -160,7 +160,3 @@ class Fuzz(unittest.TestCase):
             for thread in started(lambda seed: read(seed, elf), range(8)):
                 thread.join()
         self.assertEqual(wrong, [])
-
-
-if __name__ == '__main__':
-    unittest.main()

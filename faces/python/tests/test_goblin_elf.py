@@ -40,11 +40,14 @@ FOLDER = os.path.dirname(os.path.abspath(__file__))
 MADE = made.ALL[2]
 
 
-def refusal(function, *arguments):
-    """Returns the refusal that a call raises."""
+def refusal(function, *arguments, **expected):
+    """Returns the refusal that a call raises, of which some fields are as expected. `text` is its text."""
     try:
         function(*arguments)
     except Refused as error:
+        found = {name: str(error) if name == 'text' else getattr(error, name) for name in expected}
+        if found != expected:
+            raise AssertionError(f'{found} is not {expected}') from None
         return error
     raise AssertionError('it is not refused')
 
@@ -277,8 +280,7 @@ class Refusals(unittest.TestCase):
     def test_of_lists(self):
         cut = Elf(MADE.bytes[:-1])
         for read in (lambda: cut.section_headers, lambda: cut.syms, lambda: cut.section_by_name('.text')):
-            error = refusal(read)
-            self.assertEqual((error.kind, error.numbers, error.offset), (Kind.TOO_BIG, (64, 63), cut.header.e_shoff))
+            refusal(read, kind=Kind.TOO_BIG, numbers=(64, 63), offset=cut.header.e_shoff)
         many = Elf(MADE.bytes, Elf(MADE.bytes).header.replace(e_shnum=60000))
         error = refusal(lambda: many.section_headers)
         self.assertEqual((error.kind, error.item, error.numbers), (Kind.BUFFER_TOO_SHORT, Item.SECTION_HEADERS, (60000,)))
@@ -295,12 +297,10 @@ class Refusals(unittest.TestCase):
         self.assertEqual(refusal(Strings(elf, 1 << 40, 1).get, 0).kind, Kind.STRTAB_OFFSET)
         self.assertEqual(refusal(Strings(elf, 64, 1 << 40).get, 0).kind, Kind.STRTAB_RANGE)
         odd = Strings(Elf(MADE.bytes + b'caf\xe9\0'), len(MADE.bytes), 5)
-        error = refusal(odd.get, 0)
-        self.assertEqual((error.kind, error.item, error.offset), (Kind.BAD_INPUT, Item.INVALID_UTF8, len(MADE.bytes)))
+        refusal(odd.get, 0, kind=Kind.BAD_INPUT, item=Item.INVALID_UTF8, offset=len(MADE.bytes))
         self.assertEqual((odd.get_bytes(0), odd.get(0, 'replace'), odd.get(0, 'surrogateescape')), (b'caf\xe9', 'caf\ufffd', 'caf\udce9'))
         self.assertEqual((odd.get(1, 'ignore'), odd.get(5), odd.get_all([4, 5, 9])), ('af', None, ['', None, None]))
-        error = refusal(odd.get_all, [4, 0])
-        self.assertEqual((error.kind, error.offset), (Kind.BAD_INPUT, len(MADE.bytes)))
+        refusal(odd.get_all, [4, 0], kind=Kind.BAD_INPUT, offset=len(MADE.bytes))
         self.assertEqual(odd.get_all([4, 0, 5, 2], 'surrogateescape'), ['', 'caf\udce9', None, 'f\udce9'])
         self.assertEqual(refusal(Strings(elf, 64, 1 << 40).get_all, [0], 'replace').kind, Kind.STRTAB_RANGE)
         for read in (odd.get_all, lambda offsets, errors: odd.get(offsets[1], errors)):
@@ -349,8 +349,7 @@ class Refusals(unittest.TestCase):
         offset, size = MADE.offsets['.note.gnu.build-id']
         changed = bytearray(MADE.bytes)
         changed[offset + 4:offset + 8] = b'\xff\xff\xff\x7f'
-        error = refusal(lambda: Elf(changed).section_by_name('.note.gnu.build-id').notes)
-        self.assertEqual((error.kind, error.offset), (Kind.TOO_BIG, offset))
+        refusal(lambda: Elf(changed).section_by_name('.note.gnu.build-id').notes, kind=Kind.TOO_BIG, offset=offset)
         self.assertEqual(refusal(lambda: Elf(changed).build_id).kind, Kind.TOO_BIG)
 
     def test_of_names_of_notes(self):
@@ -358,12 +357,10 @@ class Refusals(unittest.TestCase):
         changed = bytearray(MADE.bytes)
         changed[offset + 12:offset + 15] = b'\xe9N\0'
         elf = Elf(changed)
-        error = refusal(Notes, elf, offset, size, 4)
-        self.assertEqual((error.kind, error.item), (Kind.BAD_INPUT, Item.INVALID_UTF8))
+        refusal(Notes, elf, offset, size, 4, kind=Kind.BAD_INPUT, item=Item.INVALID_UTF8)
         self.assertEqual([note.name for note in Notes(elf, offset, size, 4, 'surrogateescape')], ['\udce9N'])
         self.assertEqual(refusal(list, Notes(elf, offset, size, 4, 'surrogatepass')).item, Item.INVALID_UTF8)
-        error = refusal(Notes, elf, offset, size - 1, 4, 'replace')
-        self.assertEqual((error.kind, error.item, error.offset), (Kind.TOO_BIG, Item.NOTE_DESC, offset))
+        refusal(Notes, elf, offset, size - 1, 4, 'replace', kind=Kind.TOO_BIG, item=Item.NOTE_DESC, offset=offset)
         changed[offset + 12:offset + 15] = b'n\xc3\xa9'
         self.assertEqual([note.name for note in Notes(Elf(changed), offset, size, 4)], ['n\xe9'])
         # (names whose last byte is not zero, and one without bytes)
@@ -927,7 +924,3 @@ class Program(unittest.TestCase):
         self.assertEqual((found['kind'], found['needed'], found['interpreter']), ('program', ['libc.so.6'], '/lib64/ld-linux-x86-64.so.2'))
         paths = [segment.strtab.get(0) for segment in Elf.open(path).program_headers if segment.p_type == constants.PT_INTERP]
         self.assertEqual(paths, ['/lib64/ld-linux-x86-64.so.2'])
-
-
-if __name__ == '__main__':
-    unittest.main()

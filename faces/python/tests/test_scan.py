@@ -1132,7 +1132,3 @@ def listening():
     tables = {name: read(f'/proc/net/{name}').decode().splitlines()[1:] for name in ('tcp', 'tcp6', 'unix') if os.path.exists(f'/proc/net/{name}')}
     tcp = [line.split() for name in ('tcp', 'tcp6') for line in tables.get(name, [])]
     return {line[9] for line in tcp if line[3] == '0A'} | {line.split()[6] for line in tables['unix'] if line.split()[3] == '00010000'}
-
-
-if __name__ == '__main__':
-    unittest.main()
