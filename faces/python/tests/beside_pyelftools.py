@@ -21,12 +21,7 @@ from elftools.elf.segments import InterpSegment, NoteSegment
 from goblin_elf import Refused
 
 import made
-from parts import PARTS, Ours, OursWhole, content_of, damaged, elf_files, made_files, read_by, sum_of
-
-
-def number(value, names):
-    """Returns a number that pyelftools may have turned into a name."""
-    return names[value] if isinstance(value, str) else value
+from parts import HEADER, PARTS, SECTION, SEGMENT, Ours, OursWhole, content_of, damaged, elf_files, made_files, read_by, sum_of
 
 
 def all_of(*tables):
@@ -34,10 +29,15 @@ def all_of(*tables):
     return {name: value for table in tables for name, value in table.items() if name != '_default_'}
 
 
-SHT = all_of(*(getattr(enums, name) for name in dir(enums) if name.startswith('ENUM_SH_TYPE')))
-PT = all_of(*(getattr(enums, name) for name in dir(enums) if name.startswith('ENUM_P_TYPE')))
-SHN = all_of(enums.ENUM_ST_SHNDX)
-NT = all_of(*(getattr(enums, name) for name in dir(enums) if name.startswith('ENUM_NOTE')))
+# Of each field that it may turn into a name, how the names of its tables begin.
+NUMBERS = {field: all_of(*(getattr(enums, name) for name in dir(enums) if name.startswith(f'ENUM_{start}'))) for field, start in [
+    ('e_type', 'E_TYPE'), ('e_machine', 'E_MACHINE'), ('sh_type', 'SH_TYPE'), ('p_type', 'P_TYPE'), ('st_shndx', 'ST_SHNDX'), ('n_type', 'NOTE'),
+    ('bind', 'ST_INFO_BIND'), ('type', 'ST_INFO_TYPE'), ('visibility', 'ST_VISIBILITY')]}
+
+
+def numbers(record, *fields):
+    """Returns fields of a record of pyelftools as numbers."""
+    return tuple(NUMBERS[field][record[field]] if isinstance(record[field], str) else record[field] for field in fields)
 
 
 class Theirs:
@@ -47,23 +47,17 @@ class Theirs:
         self.elf = ELFFile(stream)
 
     def header(self):
-        h = self.elf.header
-        return (number(h['e_type'], all_of(enums.ENUM_E_TYPE)), number(h['e_machine'], all_of(enums.ENUM_E_MACHINE)), h['e_entry'],
-                h['e_phoff'], h['e_shoff'], h['e_flags'], h['e_ehsize'], h['e_phentsize'], h['e_phnum'], h['e_shentsize'], h['e_shnum'],
-                h['e_shstrndx'], self.elf.elfclass, self.elf.little_endian)
+        return (*numbers(self.elf.header, *HEADER), self.elf.elfclass, self.elf.little_endian)
 
     def sections(self):
-        return [(s.name, s['sh_name'], number(s['sh_type'], SHT), s['sh_flags'], s['sh_addr'], s['sh_offset'], s['sh_size'], s['sh_link'],
-                 s['sh_info'], s['sh_addralign'], s['sh_entsize']) for s in self.elf.iter_sections()]
+        return [(section.name, *numbers(section, *SECTION)) for section in self.elf.iter_sections()]
 
     def segments(self):
-        return [(number(s['p_type'], PT), s['p_flags'], s['p_offset'], s['p_vaddr'], s['p_paddr'], s['p_filesz'], s['p_memsz'], s['p_align'])
-                for s in self.elf.iter_segments()]
+        return [numbers(segment, *SEGMENT) for segment in self.elf.iter_segments()]
 
     def symbols(self):
-        return [[(s.name, s['st_name'], s['st_value'], s['st_size'], number(s['st_shndx'], SHN),
-                  number(s['st_info']['bind'], all_of(enums.ENUM_ST_INFO_BIND)), number(s['st_info']['type'], all_of(enums.ENUM_ST_INFO_TYPE)),
-                  number(s['st_other']['visibility'], all_of(enums.ENUM_ST_VISIBILITY))) for s in table.iter_symbols()]
+        return [[(s.name, *numbers(s, 'st_name', 'st_value', 'st_size', 'st_shndx'), *numbers(s['st_info'], 'bind', 'type'),
+                  *numbers(s['st_other'], 'visibility')) for s in table.iter_symbols()]
                 for table in self.elf.iter_sections() if isinstance(table, SymbolTableSection)]
 
     def relocations(self):
@@ -73,7 +67,7 @@ class Theirs:
     def notes(self):
         holders = [s for s in self.elf.iter_segments() if isinstance(s, NoteSegment)]
         holders += [s for s in self.elf.iter_sections() if isinstance(s, NoteSection)]
-        return [[(number(n['n_type'], NT), n['n_name'], bytes(n['n_descdata'])) for n in holder.iter_notes()] for holder in holders]
+        return [[(*numbers(n, 'n_type'), n['n_name'], bytes(n['n_descdata'])) for n in holder.iter_notes()] for holder in holders]
 
     def linking(self):
         segments = list(self.elf.iter_segments())

@@ -12,6 +12,10 @@ import made
 
 FILES = os.path.join(os.path.dirname(os.path.abspath(__file__)), '..', '..', '..', 'checks', 'files')
 PARTS = ('header', 'sections', 'segments', 'symbols', 'relocations', 'notes', 'linking')
+# The fields of headers, in the order of the standard.
+HEADER = 'e_type e_machine e_entry e_phoff e_shoff e_flags e_ehsize e_phentsize e_phnum e_shentsize e_shnum e_shstrndx'.split()
+SECTION = 'sh_name sh_type sh_flags sh_addr sh_offset sh_size sh_link sh_info sh_addralign sh_entsize'.split()
+SEGMENT = 'p_type p_flags p_offset p_vaddr p_paddr p_filesz p_memsz p_align'.split()
 
 
 class Ours:
@@ -21,17 +25,14 @@ class Ours:
         self.elf = Elf(buffer)
 
     def header(self):
-        h = self.elf.header
-        return (h.e_type, h.e_machine, h.e_entry, h.e_phoff, h.e_shoff, h.e_flags, h.e_ehsize, h.e_phentsize, h.e_phnum, h.e_shentsize,
-                h.e_shnum, h.e_shstrndx, 64 if self.elf.is_64 else 32, self.elf.little_endian)
+        return (*(getattr(self.elf.header, field) for field in HEADER), 64 if self.elf.is_64 else 32, self.elf.little_endian)
 
     def sections(self):
         table = self.elf.section_headers
-        return [(name, s.sh_name, s.sh_type, s.sh_flags, s.sh_addr, s.sh_offset, s.sh_size, s.sh_link, s.sh_info, s.sh_addralign, s.sh_entsize)
-                for s, name in zip(table, table.names('replace'))]
+        return [(name, *(getattr(section, field) for field in SECTION)) for section, name in zip(table, table.names('replace'))]
 
     def segments(self):
-        return [(s.p_type, s.p_flags, s.p_offset, s.p_vaddr, s.p_paddr, s.p_filesz, s.p_memsz, s.p_align) for s in self.elf.program_headers]
+        return [tuple(getattr(segment, field) for field in SEGMENT) for segment in self.elf.program_headers]
 
     def symbols(self):
         tables = [s.symtab for s in self.elf.section_headers if s.sh_type in (SHT_SYMTAB, SHT_DYNSYM)]
