@@ -286,9 +286,9 @@ class Note(Entry, fields=('n_type', 'name', 'desc')):
 class Table(Sequence[E]):
     """A sequence of the items of a table. The call that makes it is refused if the table is, so it has all of its items.
 
-    An index reads one item, a slice is a list, and an iteration reads many items, and their names, by a call. If the bytes change after the
-    table was made, an item may be refused, or raise an IndexError if it is gone. `table[index] = item` writes an item into a buffer that can be
-    written: it raises Refused with `Kind.INTEGER_FIT` if a number does not fit the file's class, and then changes nothing.
+    An index reads one item, a slice is a list, and an iteration reads many items, which share memory, and their names, by a call. If the bytes
+    change after the table was made, an item may be refused, or raise an IndexError if it is gone. `table[index] = item` writes an item into a
+    buffer that can be written: it raises Refused with `Kind.INTEGER_FIT` if a number does not fit the file's class, and then changes nothing.
     """
     record: Record
     item: Type[E]
