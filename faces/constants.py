@@ -1,8 +1,8 @@
 #!/usr/bin/env python3
 """Writes the constants of the library's records for C, Rust, JavaScript and Python.
 
-    python3 faces/constants.py            writes the end of faces/c/goblin.h, constants.js and interface.js of faces/web, constants.py, interface.py
-                                          and names.py of faces/python/goblin_elf, and by faces/rust/generated.py the file for Rust
+    python3 faces/constants.py            writes the end of faces/c/goblin.h, constants.js and interface.js of faces/web, constants.py, _interface.py
+                                          and _names.py of faces/python/goblin_elf, and by faces/rust/generated.py the file for Rust
     python3 faces/constants.py --made     writes only the files for JavaScript, Python and Rust
     python3 faces/constants.py --check    writes nothing, and fails if goblin.h is not what it would write, or if a constant is not in the table
                                           that the library's are compared with, crates/goblin_names/stdout
@@ -302,23 +302,20 @@ def py_file():
 \"\"\"
 import enum
 
-# The number of the interface: GOBLIN_VERSION of goblin.h. And the version of the package.
-VERSION = {interface()}
-__version__ = '{version()}'
 """
     for name, members in groups.items():
         text += py_enumeration(name, [constant for _, constant in members])
     for name, constant in others:
         text += '\n' + py_comment(constant, '') + f'{name} = {py_value(constant)}\n'
-    names = ['VERSION', *groups, *(name for members in groups.values() for name, _ in members), *(name for name, _ in others)]
+    names = [*groups, *(name for members in groups.values() for name, _ in members), *(name for name, _ in others)]
     lines = textwrap.fill(', '.join(map(repr, names)) + ',', WIDTH, initial_indent='    ', subsequent_indent='    ')
     return f'{text}\n# What `from goblin_elf.constants import *` imports.\n__all__ = [\n{lines}\n]\n'
 
 
-# What goblin.h declares, for the module interface.py: the structs that are items, with the class of their tables, and the types of C as
+# What goblin.h declares, for the module _interface.py: the structs that are items, with the class of their tables, and the types of C as
 # codes of Python's module struct. `z` is a size_t, `b` a bool, and `p` any pointer.
 ITEMS = {'header': '', 'section': 'Sections', 'segment': 'Segments', 'symbol': 'Symbols', 'reloc': 'Relocations', 'dyn': 'Dynamic'}
-# The fields of items in their order, where it is not that of the struct.
+# The fields of items in the order of comparisons and of `repr`, where it is not that of the struct.
 ORDER = {name: fields.split() for name, fields in {
     'section': 'sh_offset sh_size sh_name sh_flags sh_addr sh_addralign sh_entsize sh_type sh_link sh_info',
     'segment': 'p_offset p_filesz p_vaddr p_paddr p_memsz p_align p_type p_flags',
@@ -382,31 +379,34 @@ def py_members(name, comment, members):
 
 
 def py_item(name, comment, fields):
-    text = f'\n\nclass {name.capitalize()}Fields(NamedTuple):\n    """{comment}"""\n\n'
-    for field, _, words in (fields[index] for index in ordered(name, fields)):
-        if field == 'r_addend':
-            text += '    # the addend, or `None` if the relocation has none of its own\n    r_addend: Optional[int]\n'
-        else:
-            if words:
-                text += textwrap.indent(textwrap.fill(words, WIDTH, initial_indent='# ', subsequent_indent='# '), '    ') + '\n'
-            text += f'    {field}: int\n'
+    in_order = (fields[index] for index in ordered(name, fields))
+    of_item = [(field, 'Optional[int]' if field == 'r_addend' else 'int', words) for field, _, words in in_order]
     if ITEMS[name]:
-        text += f"    # the index in its table\n    index: int  # type: ignore[assignment]\n    table: '{ITEMS[name]}'\n"
+        of_item += [('index', 'int', 'the index in its table'), ('table', f"'{ITEMS[name]}'", 'its table')]
+    text = f'\n\nclass {name.capitalize()}Fields:\n    """{comment}"""\n    __slots__ = ()\n'
+    for field, kind, words in of_item:
+        words = 'the addend, or `None` if the relocation has none of its own' if field == 'r_addend' else words or field
+        doc = textwrap.fill(f'"""{words[0].upper()}{words[1:].rstrip(".")}."""', WIDTH, initial_indent=' ' * 8, subsequent_indent=' ' * 8)
+        text += f'\n    @property\n    def {field}(self) -> {kind}:\n{doc}\n        raise NotImplementedError\n'
     return text
 
 
 def py_interface():
     kinds, parts, calls = declared()
     all_structs = list(structs())
-    text = f"""\"\"\"What goblin.h declares: its refusals, its structs and its calls.
+    text = f"""\"\"\"What goblin.h declares: its number, its refusals, its structs and its calls.
 
 {MADE.replace("the library's constants", HEADER)}
 \"\"\"
 import enum
-from typing import TYPE_CHECKING, NamedTuple, Optional
+from typing import TYPE_CHECKING, Optional
 
 if TYPE_CHECKING:
-    from .items import {', '.join(sorted(filter(None, ITEMS.values())))}
+    from ._items import {', '.join(sorted(filter(None, ITEMS.values())))}
+
+# The number of the interface, GOBLIN_VERSION of goblin.h, and the version of the package.
+INTERFACE = {interface()}
+VERSION = '{version()}'
 
 
 class Named(enum.IntEnum):
@@ -442,7 +442,7 @@ class Named(enum.IntEnum):
         text += py_item(name, comment, fields) if name in ITEMS else ''
     text += '\n\n# How many numbers belong to each kind.\nNUMBERS = {\n'
     text += ''.join(f'    Kind.{name}: {numbers_in(words)},\n' for words, name, _ in kinds)
-    text += '}\n\n# The fields of each struct, their codes in the module struct, and their indexes in the order of its item.\nSTRUCTS = {\n'
+    text += '}\n\n# The fields of each struct, their codes in the module struct, and their indexes in the order of comparisons.\nSTRUCTS = {\n'
     text += ''.join(f"    '{name}': ({tuple(field for field, _, _ in fields)!r}, '{''.join(code for _, code, _ in fields)}', "
                     f'{ordered(name, fields)}),\n' for name, _, fields in all_structs)
     text += '}\n\n# The result of each call, and then its arguments: p a pointer, z a size_t, b a bool, - nothing, else as in the module struct.\n'
@@ -590,7 +590,7 @@ def main(arguments):
         return 1 if is_stale or missing() else 0
     write('faces/web/constants.js', js_file())
     write('faces/web/interface.js', js_interface())
-    for name, text in [('constants', py_file()), ('interface', py_interface()), ('names', py_names())]:
+    for name, text in [('constants', py_file()), ('_interface', py_interface()), ('_names', py_names())]:
         write(f'faces/python/goblin_elf/{name}.py', text)
     if is_stale and not arguments:
         write(HEADER, c_file())

@@ -23,8 +23,8 @@ def content_of(version, library_path, machine):
         if name.endswith('.py') or name == 'py.typed':
             with open(os.path.join(package, name), 'rb') as file:
                 yield f'goblin_elf/{name}', file.read()
-    with open(os.path.join(package, 'constants.py'), encoding='utf-8') as file:
-        interface = re.search(r'^VERSION = (\d+)$', file.read(), re.M)[1]
+    with open(os.path.join(package, '_interface.py'), encoding='utf-8') as file:
+        interface = re.search(r'^INTERFACE = (\d+)$', file.read(), re.M)[1]
     yield f'goblin_elf/libgoblin_c.so.{interface}', library
     info = f'goblin_elf-{version}.dist-info'
     for name in ('LICENSE', 'CHANGELOG.md'):

@@ -5,15 +5,28 @@ cache: the folders of ld.so.conf stand for that. Of the variables in search path
 """
 import glob
 import os
+import stat
 import sys
 
 from goblin_elf import Elf, Refused
-from goblin_elf.arguments import opened, put
-from goblin_elf.scan import escaped
 
 sys.stdout.reconfigure(errors='replace')  # (it need not take each sign)
 ROOT = ''.join(sys.argv[2:3])
 SYSTEM = '/lib64:/usr/lib64:/lib/x86_64-linux-gnu:/usr/lib/x86_64-linux-gnu:/lib:/usr/lib'
+
+
+def escaped(text):
+    """Returns a text in which a terminal takes nothing as a command."""
+    return ''.join(sign if sign.isprintable() and sign != '\\' else ''.join(f'\\x{byte:02x}' for byte in sign.encode('utf-8', 'surrogateescape'))
+                   for sign in text)
+
+
+def opened(path):
+    # (what is no regular file may have no end, and some of the kernel's files, which have no size, wait)
+    status = os.stat(path)
+    if not stat.S_ISREG(status.st_mode):
+        raise OSError(0, 'it is no ordinary file', path)
+    return Elf.open(path) if status.st_size else Elf(b'')
 
 
 def folders(path, file=''):
@@ -50,10 +63,10 @@ class Loaded:
 
     def __init__(self, path, loader=None):
         elf = Elf.open(path)
-        self.path, self.loader, self.header, self.needed, self.libraries = path, loader, elf.header, elf.needed, {}
+        self.path, self.loader, self.header, self.needed, self.libraries = path, loader, elf.header, elf.libraries, {}
         self.names = [os.stat(path)[1:3], path, elf.soname]
-        self.runpath = None if elf.runpath is None else folders(elf.runpath, path)
-        self.rpath = folders(elf.rpath, path) if self.runpath is None else []
+        self.runpath = folders(':'.join(elf.runpaths), path) if elf.runpaths else None
+        self.rpath = folders(':'.join(elf.rpaths), path) if self.runpath is None else []
 
     def find(self, name):
         """Returns the path of a library that this one needs, or `None`."""
@@ -111,5 +124,5 @@ try:
 except Refused as error:
     sys.exit(f'refused: {error}')
 except OSError as error:
-    put('', sys.stdout)  # (which may be full)
+    os.dup2(os.open(os.devnull, os.O_WRONLY), 1)  # (what is left to be printed may not fit)
     sys.exit(escaped(f'{error.filename or sys.argv[1]}: {error.strerror}'))

@@ -10,9 +10,9 @@ import signal
 import sys
 from typing import Any, Dict, Iterator, List, Optional, Set
 
-from .arguments import Parser, opened, put
-from .facts import facts, refusal
-from .refused import Refused
+from ._arguments import Parser, opened, put
+from ._facts import facts, refusal
+from ._refused import Refused
 
 
 def described(path: str) -> Dict[str, Any]:

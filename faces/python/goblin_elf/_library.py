@@ -4,64 +4,70 @@ import mmap
 import operator
 import os
 import struct
-from typing import Any, List, Optional, Tuple
+from typing import Any, List, Optional, Sequence, Tuple
 
-from .constants import VERSION
-from .interface import CALLS, STRUCTS
-from .refused import Refused
+from ._interface import CALLS, INTERFACE, STRUCTS
+from ._refused import Refused
 
 OK, END = 0, 1
-NAME = f'libgoblin_c.so.{VERSION}'
-TYPES = {'p': ctypes.c_void_p, 'z': ctypes.c_size_t, 'Q': ctypes.c_uint64, 'I': ctypes.c_uint32, 'H': ctypes.c_uint16,
+NAME = f'libgoblin_c.so.{INTERFACE}'
+TYPES = {'p': ctypes.c_void_p, 'z': ctypes.c_size_t, 'Q': ctypes.c_uint64, 'q': ctypes.c_int64, 'I': ctypes.c_uint32, 'H': ctypes.c_uint16,
          'B': ctypes.c_uint8, 'b': ctypes.c_bool}
 
 
 class Record:
-    """A struct of goblin.h: its fields, each with its code in the module `struct`, in the machine's byte order. `order` has the indexes of the
-    fields in the order of its item, in which they are packed, unpacked and listed."""
+    """A struct of goblin.h: its fields, each with its code in the module `struct`, in the machine's byte order. `names` are its fields in the
+    order of comparisons."""
 
-    def __init__(self, fields: Tuple[str, ...], codes: str, order: Tuple[int, ...]) -> None:
-        self.fields, self.codes = fields, codes
-        self.ordered, self.declared = operator.itemgetter(*order), operator.itemgetter(*map(order.index, range(len(order))))
+    def __init__(self, fields: Tuple[str, ...], codes: str, order: Tuple[int, ...] = ()) -> None:
+        self.fields, self.codes, self.names = fields, codes, tuple(fields[index] for index in order)
         self.struct = struct.Struct(f'@{codes}0Q')
-        self.size = self.struct.size
+        self.size, self.unpack = self.struct.size, self.struct.unpack
         self.buffer = ctypes.c_char * self.size
+        # Of each field its code and its offset.
+        self.places = {field: (code, struct.calcsize(f'@{codes[:index]}0{code}')) for index, (field, code) in enumerate(zip(fields, codes))}
 
-        # Of each field its code, and its offset and the size of the struct in units of the field's size.
-        self.places = self.ordered([(code, struct.calcsize(f'@{codes[:index]}0{code}') // struct.calcsize(code),
-                                     self.size // struct.calcsize(code)) for index, code in enumerate(codes)])
-
-    def columns(self, structs: memoryview) -> List[List[Any]]:
-        """Returns each field of some structs as a list."""
-        return [structs.cast(code)[first::step].tolist() for code, first, step in self.places]
-
-    def pack(self, values: Tuple[Any, ...]) -> bytes:
+    def pack(self, values: Sequence[Any]) -> bytes:
         """Returns the bytes of the struct. Raises a ValueError if a number does not fit its field, and a TypeError if a field is no integer."""
         try:
-            return self.struct.pack(*self.declared(values))
+            return self.struct.pack(*values)
         except struct.error as error:
-            for field, value in zip(self.ordered(self.fields), values):
+            for field, value in zip(self.fields, values):
                 if not hasattr(value, '__index__'):
                     raise TypeError(f'{field} is a {type(value).__name__}, and must be an integer') from None
             raise ValueError(f'a field does not fit its number of bits: {error}') from None
 
-    def unpack(self, content: Any) -> Tuple[int, ...]:
-        """Returns the fields of the bytes of the struct."""
-        fields: Tuple[int, ...] = self.ordered(self.struct.unpack(content))
-        return fields
+    def pack_item(self, item: Any) -> bytes:
+        """Returns the bytes of the struct of an item."""
+        return self.pack([getattr(item, field) for field in self.fields])
+
+    def class_of(self, item: Any, has_table: bool) -> Any:
+        """Returns the class of those items whose fields are where the library wrote them. In a table the index follows, and the array has the
+        table."""
+        fields = [(field, TYPES[code]) for field, code in zip(self.fields, self.codes)]
+        own = {'__slots__': (), '__module__': item.__module__, '_fields_': [*fields, *[('index', ctypes.c_uint64)] * has_table]}
+        table = {'table': property(operator.attrgetter('_b_base_.table'))} if has_table else {}
+        kind: Any = type(ctypes.Structure)
+        return kind(item.__name__, (item, ctypes.Structure), {**own, **table})
+
+    def column(self, field: str, structs: memoryview) -> List[int]:
+        """Returns a field of some structs."""
+        code, offset = self.places[field]
+        size = struct.calcsize(code)
+        return structs.cast(code)[offset // size::self.size // size].tolist()
 
     def dtype(self) -> Any:
         """Returns the struct as a dtype of numpy."""
         import numpy
         kinds = {'Q': 'u8', 'q': 'i8', 'I': 'u4', 'H': 'u2', 'B': 'u1'}
-        return numpy.dtype({'names': self.ordered(self.fields), 'formats': [kinds[code] for code, _, _ in self.places],
-                            'offsets': [first * struct.calcsize(code) for code, first, _ in self.places], 'itemsize': self.size})
+        codes, offsets = zip(*(self.places[name] for name in self.names))
+        return numpy.dtype({'names': self.names, 'formats': [kinds[code] for code in codes], 'offsets': offsets, 'itemsize': self.size})
 
 
 RECORDS = {name: Record(*declared) for name, declared in STRUCTS.items()}
 REFUSAL, RANGE, HEADER = RECORDS['refusal'], RECORDS['range'], RECORDS['header']
 # A file: where its bytes are, how many there are, and its header.
-FILE = Record(('bytes', 'len', *HEADER.fields), f'QQ{HEADER.codes}', tuple(range(2 + len(HEADER.fields))))
+FILE = Record(('bytes', 'len', *HEADER.fields), f'QQ{HEADER.codes}')
 
 
 def where() -> str:
@@ -81,8 +87,8 @@ def load() -> ctypes.CDLL:
         if is_named:
             raise ImportError(f'GOBLIN_ELF_LIBRARY is {path}, which can not be loaded as {NAME}: {error}') from None
         raise ImportError(f'goblin_elf needs {NAME}, and can not load it ({error}): install it, or set GOBLIN_ELF_LIBRARY') from None
-    if version != VERSION or not all(hasattr(library, f'goblin_{name}') for name in CALLS) or not is_laid_out(library):
-        what = 'has other calls or structs' if version == VERSION else f'has interface {version}, not {VERSION}'
+    if version != INTERFACE or not all(hasattr(library, f'goblin_{name}') for name in CALLS) or not is_laid_out(library):
+        what = 'has other calls or structs' if version == INTERFACE else f'has interface {version}, not {INTERFACE}'
         raise ImportError(f'{"GOBLIN_ELF_LIBRARY is " * is_named}{path}{", which" * is_named} {what}: this goblin_elf needs another version of it')
     if is_named and os.sep in path and not os.path.isabs(path):
         # (for processes that start in another folder, as workers of goblin-scan do)
@@ -141,7 +147,7 @@ class File:
         RELEASE_BUFFER(words)
 
     def __reduce__(self) -> Any:
-        raise TypeError('a file, its tables and their items can not be pickled: pickle bytes(elf.bytes), or the numbers in item[:-2]')
+        raise TypeError('a file, its tables and their items can not be pickled: pickle bytes(elf.bytes), or item.as_dict()')
 
     def part(self, offset: int, size: int) -> memoryview:
         """Returns some bytes, without a copy."""

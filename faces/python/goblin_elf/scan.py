@@ -33,11 +33,11 @@ import tarfile
 import time
 from typing import IO, Any, Callable, Dict, FrozenSet, Iterator, List, Optional, Set, TextIO, Tuple
 
-from . import workers
-from .arguments import Parser, put
-from .elf import Elf, content_of
-from .facts import facts, refusal
-from .refused import Refused
+from . import _workers as workers
+from ._arguments import Parser, put
+from ._elf import Elf, content_of
+from ._facts import facts, refusal
+from ._refused import Refused
 
 Row = Dict[str, Any]
 Part = Tuple[str, Row]  # of a file in a package: what comes after its name in the row, if it is a static library, and the row

@@ -2,17 +2,14 @@
 """Compares goblin_elf with pyelftools: beside_pyelftools.py [--files N] [--damaged N] [DIR ..]
 
 It reads N whole ELF files of the folders (default: 40 of this machine's) by both and compares headers, sections, segments, symbols with
-their names, relocations, notes, and what the dynamic section says. Then it reads N damaged or cut files by both: goblin_elf must return
-records or raise Refused. What pyelftools does is counted. With --sums FILE .. it prints the sums of what pyelftools reads that test_stored.py
-compares.
+their names, relocations, notes, and what the dynamic section says. Then it reads N damaged or cut files, of which goblin_elf must return
+records or raise Refused. With --sums FILE .. it prints the sums of what pyelftools reads that test_stored.py compares.
 """
 import argparse
 import collections
 import io
 import itertools
 import os
-import signal
-import time
 
 from elftools.elf import enums
 from elftools.elf.elffile import ELFFile
@@ -21,16 +18,10 @@ from elftools.elf.relocation import RelocationSection
 from elftools.elf.sections import NoteSection, SymbolTableSection
 from elftools.elf.segments import InterpSegment, NoteSegment
 
-from goblin_elf import Elf, Refused
-from goblin_elf.facts import facts
+from goblin_elf import Refused
 
 import made
-from parts import PARTS, Ours, OursWhole, content_of, damaged, elf_files, made_files, read_by, sum_of
-
-
-def number(value, names):
-    """Returns a number that pyelftools may have turned into a name."""
-    return names[value] if isinstance(value, str) else value
+from parts import HEADER, PARTS, SECTION, SEGMENT, Ours, OursWhole, content_of, damaged, elf_files, made_files, read_by, sum_of
 
 
 def all_of(*tables):
@@ -38,10 +29,15 @@ def all_of(*tables):
     return {name: value for table in tables for name, value in table.items() if name != '_default_'}
 
 
-SHT = all_of(*(getattr(enums, name) for name in dir(enums) if name.startswith('ENUM_SH_TYPE')))
-PT = all_of(*(getattr(enums, name) for name in dir(enums) if name.startswith('ENUM_P_TYPE')))
-SHN = all_of(enums.ENUM_ST_SHNDX)
-NT = all_of(*(getattr(enums, name) for name in dir(enums) if name.startswith('ENUM_NOTE')))
+# Of each field that it may turn into a name, how the names of its tables begin.
+NUMBERS = {field: all_of(*(getattr(enums, name) for name in dir(enums) if name.startswith(f'ENUM_{start}'))) for field, start in [
+    ('e_type', 'E_TYPE'), ('e_machine', 'E_MACHINE'), ('sh_type', 'SH_TYPE'), ('p_type', 'P_TYPE'), ('st_shndx', 'ST_SHNDX'), ('n_type', 'NOTE'),
+    ('bind', 'ST_INFO_BIND'), ('type', 'ST_INFO_TYPE'), ('visibility', 'ST_VISIBILITY')]}
+
+
+def numbers(record, *fields):
+    """Returns fields of a record of pyelftools as numbers."""
+    return tuple(NUMBERS[field][record[field]] if isinstance(record[field], str) else record[field] for field in fields)
 
 
 class Theirs:
@@ -51,23 +47,17 @@ class Theirs:
         self.elf = ELFFile(stream)
 
     def header(self):
-        h = self.elf.header
-        return (number(h['e_type'], all_of(enums.ENUM_E_TYPE)), number(h['e_machine'], all_of(enums.ENUM_E_MACHINE)), h['e_entry'],
-                h['e_phoff'], h['e_shoff'], h['e_flags'], h['e_ehsize'], h['e_phentsize'], h['e_phnum'], h['e_shentsize'], h['e_shnum'],
-                h['e_shstrndx'], self.elf.elfclass, self.elf.little_endian)
+        return (*numbers(self.elf.header, *HEADER), self.elf.elfclass, self.elf.little_endian)
 
     def sections(self):
-        return [(s.name, s['sh_name'], number(s['sh_type'], SHT), s['sh_flags'], s['sh_addr'], s['sh_offset'], s['sh_size'], s['sh_link'],
-                 s['sh_info'], s['sh_addralign'], s['sh_entsize']) for s in self.elf.iter_sections()]
+        return [(section.name, *numbers(section, *SECTION)) for section in self.elf.iter_sections()]
 
     def segments(self):
-        return [(number(s['p_type'], PT), s['p_flags'], s['p_offset'], s['p_vaddr'], s['p_paddr'], s['p_filesz'], s['p_memsz'], s['p_align'])
-                for s in self.elf.iter_segments()]
+        return [numbers(segment, *SEGMENT) for segment in self.elf.iter_segments()]
 
     def symbols(self):
-        return [[(s.name, s['st_name'], s['st_value'], s['st_size'], number(s['st_shndx'], SHN),
-                  number(s['st_info']['bind'], all_of(enums.ENUM_ST_INFO_BIND)), number(s['st_info']['type'], all_of(enums.ENUM_ST_INFO_TYPE)),
-                  number(s['st_other']['visibility'], all_of(enums.ENUM_ST_VISIBILITY))) for s in table.iter_symbols()]
+        return [[(s.name, *numbers(s, 'st_name', 'st_value', 'st_size', 'st_shndx'), *numbers(s['st_info'], 'bind', 'type'),
+                  *numbers(s['st_other'], 'visibility')) for s in table.iter_symbols()]
                 for table in self.elf.iter_sections() if isinstance(table, SymbolTableSection)]
 
     def relocations(self):
@@ -77,7 +67,7 @@ class Theirs:
     def notes(self):
         holders = [s for s in self.elf.iter_segments() if isinstance(s, NoteSegment)]
         holders += [s for s in self.elf.iter_sections() if isinstance(s, NoteSection)]
-        return [[(number(n['n_type'], NT), n['n_name'], bytes(n['n_descdata'])) for n in holder.iter_notes()] for holder in holders]
+        return [[(*numbers(n, 'n_type'), n['n_name'], bytes(n['n_descdata'])) for n in holder.iter_notes()] for holder in holders]
 
     def linking(self):
         segments = list(self.elf.iter_segments())
@@ -122,46 +112,19 @@ def compare(contents):
     return different
 
 
-class TooLong(BaseException):
-    """pyelftools takes more than a second."""
-
-
-def stopped(*_):
-    raise TooLong
-
-
-def compare_damaged(count, sources, seed):
-    """Reads damaged files by both."""
-    ours, theirs, taken = collections.Counter(), collections.Counter(), [0.0, 0.0]
-    signal.signal(signal.SIGALRM, stopped)
-    for content in damaged(count, sources, seed):
-        start = time.perf_counter()
+def not_refused(contents):
+    """Counts those damaged files of which goblin_elf neither returns each part nor refuses it, and leaves one in a file."""
+    wrong = 0
+    for content in contents:
         found = [read_by(Ours, content, part) for part in PARTS]
         found += [read_by(OursWhole, content, part) for part in ('whole_sections', 'whole_segments')]
-        try:
-            facts(Elf(content))
-        except Refused:
-            pass
-        taken[0] += time.perf_counter() - start
-        wrong = [result for result in found if isinstance(result, Exception) and not isinstance(result, Refused)]
-        if wrong:
-            print('not refused:', repr(wrong[0]))
+        errors = [result for result in found if isinstance(result, Exception) and not isinstance(result, Refused)]
+        if errors:
+            wrong += 1
+            print('not refused:', repr(errors[0]))
             with open(os.path.join(os.environ.get('TMPDIR', '/tmp'), 'not_refused'), 'wb') as file:
                 file.write(content)
-        ours['other exceptions' if wrong else 'refused' if any(isinstance(result, Refused) for result in found) else 'read'] += 1
-        start = time.perf_counter()
-        signal.setitimer(signal.ITIMER_REAL, 1)
-        try:
-            results = [read_by(Theirs, io.BytesIO(content), part) for part in PARTS]
-            signal.setitimer(signal.ITIMER_REAL, 0)
-            kinds = {type(result).__name__ for result in results if isinstance(result, Exception)} or {'read'}
-        except TooLong:
-            kinds = {'TooLong'}
-        signal.setitimer(signal.ITIMER_REAL, 0)
-        theirs.update(kinds)
-        taken[1] += time.perf_counter() - start
-    print(f'{count} damaged files: goblin_elf {dict(ours)} in {taken[0]:.1f} s; pyelftools {dict(theirs)} in {taken[1]:.1f} s')
-    return ours['other exceptions']
+    return wrong
 
 
 # What it reads otherwise: relocations with three types, and bytes that are not in the file.
@@ -188,7 +151,7 @@ def main():
     paths = elf_files(options.folders, options.files)
     different = compare(itertools.chain(made_files(), ((path, content_of(path)) for path in paths)))
     sources = [file.bytes for file in made.ALL] + [content_of(path) for path in paths if os.path.getsize(path) < 100000][:20]
-    wrong = compare_damaged(options.damaged, sources, options.seed)
+    wrong = not_refused(damaged(options.damaged, sources, options.seed))
     print(f'pyelftools: {sum(different.values())} differences in {len(paths)} files; {wrong} damaged files raise another exception than Refused')
 
 

@@ -16,6 +16,7 @@ from goblin_elf import Elf, Refused
 
 from parts import content_of, damaged, elf_files
 
+CALLS = {'needed': 'libraries', 'rpath': 'rpaths', 'runpath': 'runpaths'}
 PATTERNS = {'needed': r'\(NEEDED\) +Shared library: \[(.*)\]$', 'soname': r'\(SONAME\) +Library soname: \[(.*)\]$',
             'rpath': r'\(RPATH\) +Library rpath: \[(.*)\]$', 'runpath': r'\(RUNPATH\) +Library runpath: \[(.*)\]$',
             'interpreter': r'^ +\[Requesting program interpreter: (.*)\]$'}
@@ -26,7 +27,7 @@ def ours(content):
     found = {}
     for fact in PATTERNS:
         try:
-            text = getattr(Elf(content), fact)
+            text = getattr(Elf(content), CALLS.get(fact, fact))
             found[fact] = text if isinstance(text, list) else [text] if text is not None else []
         except Refused:
             found[fact] = None
@@ -38,7 +39,7 @@ def theirs(path):
     ran = subprocess.run(['readelf', '-dlW', path], stdout=subprocess.PIPE, stderr=subprocess.PIPE, encoding='utf-8', errors='surrogateescape',
                          env={**os.environ, 'LC_ALL': 'C'})
     found = {fact: re.findall(pattern, ran.stdout, re.M) for fact, pattern in PATTERNS.items()}
-    return {fact: texts if fact == 'needed' else texts[:1] for fact, texts in found.items()}, bool(ran.stderr)
+    return {fact: texts if fact in CALLS else texts[:1] for fact, texts in found.items()}, bool(ran.stderr)
 
 
 def compare(name, content, path, counts):

@@ -99,3 +99,27 @@ class Made:
 
 
 ALL = [Made(bits, order) for bits in (32, 64) for order in '<>']
+
+
+def head(kind, phoff=0, phnum=0, shoff=0, shnum=0):
+    """Returns the header of a file for x86-64, of a type."""
+    return struct.pack('<' + EHDR[64], b'\x7fELF\2\1\1', kind, 62, 1, 0, phoff, shoff, 0, 64, 56, phnum, 64, shnum, 0)
+
+
+def section_header(kind, offset=0, size=0, flags=0, info=0):
+    """Returns a section header of such a file."""
+    return struct.pack('<' + SHDR[64], 0, kind, flags, 0, offset, size, 0, info, 1, 0)
+
+
+def linked(*names, interpreter=None):
+    """Returns a library for x86-64 that has only entries of the dynamic section, each with its tag and a name, and a program interpreter."""
+    strings, entries, start, path = b'\0', b'', 64 + 3 * 56, b'' if interpreter is None else interpreter + b'\0'
+    for tag, name in names:
+        entries += struct.pack('<QQ', tag, len(strings))
+        strings += name + b'\0'
+    at = start + len(entries) + 48
+    entries += struct.pack('<6Q', 5, at, 10, len(strings), 0, 0)
+    end = at + len(strings) + len(path)
+    ranges = [(1, 0, end), (2, start, len(entries)), (3 if path else 0, end - len(path), len(path))]
+    segments = [struct.pack('<' + PHDR[64], kind, 4, offset, offset, offset, size, size, 8) for kind, offset, size in ranges]
+    return head(3, 64, 3) + b''.join(segments) + entries + strings + path

@@ -3,14 +3,19 @@ import hashlib
 import os
 import random
 import resource
+import threading
 
 from goblin_elf import PT_DYNAMIC, SHT_DYNSYM, SHT_NOTE, SHT_REL, SHT_RELA, SHT_SYMTAB, Elf
-from goblin_elf.facts import facts
+from goblin_elf._facts import facts
 
 import made
 
 FILES = os.path.join(os.path.dirname(os.path.abspath(__file__)), '..', '..', '..', 'checks', 'files')
 PARTS = ('header', 'sections', 'segments', 'symbols', 'relocations', 'notes', 'linking')
+# The fields of headers, in the order of the standard.
+HEADER = 'e_type e_machine e_entry e_phoff e_shoff e_flags e_ehsize e_phentsize e_phnum e_shentsize e_shnum e_shstrndx'.split()
+SECTION = 'sh_name sh_type sh_flags sh_addr sh_offset sh_size sh_link sh_info sh_addralign sh_entsize'.split()
+SEGMENT = 'p_type p_flags p_offset p_vaddr p_paddr p_filesz p_memsz p_align'.split()
 
 
 class Ours:
@@ -20,36 +25,33 @@ class Ours:
         self.elf = Elf(buffer)
 
     def header(self):
-        h = self.elf.header
-        return (h.e_type, h.e_machine, h.e_entry, h.e_phoff, h.e_shoff, h.e_flags, h.e_ehsize, h.e_phentsize, h.e_phnum, h.e_shentsize,
-                h.e_shnum, h.e_shstrndx, 64 if self.elf.is_64 else 32, self.elf.little_endian)
+        return (*(getattr(self.elf.header, field) for field in HEADER), 64 if self.elf.is_64 else 32, self.elf.little_endian)
 
     def sections(self):
-        table = self.elf.sections
-        return [(name, s.sh_name, s.sh_type, s.sh_flags, s.sh_addr, s.sh_offset, s.sh_size, s.sh_link, s.sh_info, s.sh_addralign, s.sh_entsize)
-                for s, name in zip(table, table.names('replace'))]
+        table = self.elf.section_headers
+        return [(name, *(getattr(section, field) for field in SECTION)) for section, name in zip(table, table.names('replace'))]
 
     def segments(self):
-        return [(s.p_type, s.p_flags, s.p_offset, s.p_vaddr, s.p_paddr, s.p_filesz, s.p_memsz, s.p_align) for s in self.elf.segments]
+        return [tuple(getattr(segment, field) for field in SEGMENT) for segment in self.elf.program_headers]
 
     def symbols(self):
-        tables = [s.symbols for s in self.elf.sections if s.sh_type in (SHT_SYMTAB, SHT_DYNSYM)]
-        return [[(name, s.st_name, s.st_value, s.st_size, s.st_shndx, s.binding, s.type, s.visibility)
+        tables = [s.symtab for s in self.elf.section_headers if s.sh_type in (SHT_SYMTAB, SHT_DYNSYM)]
+        return [[(name, s.st_name, s.st_value, s.st_size, s.st_shndx, s.st_bind, s.st_type, s.st_visibility)
                  for s, name in zip(table, table.names('replace'))] for table in tables]
 
     def relocations(self):
-        return [[relocation[:2] + (relocation.r_type, relocation.r_addend) for relocation in s.relocations]
-                for s in self.elf.sections if s.sh_type in (SHT_RELA, SHT_REL)]
+        return [[(r.r_offset, r.r_sym, r.r_type, r.r_addend) for r in s.relocs]
+                for s in self.elf.section_headers if s.sh_type in (SHT_RELA, SHT_REL)]
 
     def notes(self):
-        holders = [s for s in self.elf.segments if s.p_type == 4] + [s for s in self.elf.sections if s.sh_type == SHT_NOTE]
+        holders = [s for s in self.elf.program_headers if s.p_type == 4] + [s for s in self.elf.section_headers if s.sh_type == SHT_NOTE]
         # (pyelftools cuts a name at its first zero byte, after which .gnu.build.attributes have numbers)
         return [[(note.n_type, note.name.split('\0')[0], bytes(note.desc)) for note in holder.notes] for holder in holders]
 
     def linking(self):
-        found, texts = facts(self.elf), (self.elf.soname, self.elf.rpath, self.elf.runpath, self.elf.interpreter)
+        found, (soname, interpreter) = facts(self.elf), ([] if text is None else [text] for text in (self.elf.soname, self.elf.interpreter))
         # (of a file that is not loaded the other side says no)
-        return [self.elf.needed, *([text] if text is not None else [] for text in texts),
+        return [self.elf.libraries, soname, self.elf.rpaths, self.elf.runpaths, interpreter,
                 [found['nx'] or False, found['relro'] or 'no', found['pie'] or False]]
 
 
@@ -57,10 +59,10 @@ class OursWhole(Ours):
     """What goblin_elf reads by the header that counts only what lies in the file whole."""
 
     def whole_sections(self):
-        return list(self.elf.whole().sections)
+        return list(self.elf.whole().section_headers)
 
     def whole_segments(self):
-        return list(self.elf.whole().segments)
+        return list(self.elf.whole().program_headers)
 
 
 def read_by(kind, source, part):
@@ -108,6 +110,14 @@ def limit_memory():
     resource.setrlimit(resource.RLIMIT_DATA, (256 << 20, 256 << 20))
 
 
+def started(function, arguments):
+    """Returns threads that run a function, each with an argument."""
+    threads = [threading.Thread(target=function, args=(argument,)) for argument in arguments]
+    for thread in threads:
+        thread.start()
+    return threads
+
+
 def stored(name):
     """Returns the path of a stored file."""
     return os.path.join(FILES, *name.split('/'))
@@ -119,18 +129,18 @@ def changed(name):
 
 
 def of_type(elf, p_type):
-    return next(segment for segment in elf.segments if segment.p_type == p_type)
+    return next(segment for segment in elf.program_headers if segment.p_type == p_type)
 
 
 def replace(elf, kind, **fields):
     """Changes fields of the first segment of a type."""
     segment = of_type(elf, kind)
-    elf.segments[segment.index] = segment._replace(**fields)
+    elf.program_headers[segment.index] = segment.replace(**fields)
 
 
 def put_value(elf, tag, value):
     """Changes the value of the first entry with a tag in a 64-bit file."""
-    entry = next(entry for entry in elf.dynamic if entry.tag == tag)
+    entry = next(entry for entry in elf.dynamic_section if entry.d_tag == tag)
     elf.put_number(of_type(elf, PT_DYNAMIC).p_offset + 16 * entry.index + 8, 8, value)
 
 

@@ -20,7 +20,8 @@ except ImportError:
     numpy = None
 
 FOLDER = os.path.dirname(os.path.abspath(__file__))
-NAMES = ('needed', 'soname', 'rpath', 'runpath', 'interpreter')
+# The facts, each with the name of its call.
+NAMES = [('needed', 'libraries'), ('soname', 'soname'), ('rpath', 'rpaths'), ('runpath', 'runpaths'), ('interpreter', 'interpreter')]
 
 
 class Names(unittest.TestCase):
@@ -30,15 +31,17 @@ class Names(unittest.TestCase):
             rows = json.load(file)
         for name, row in rows.items():
             elf = Elf.open(stored(name))
-            for fact in NAMES:
+            for fact, call in NAMES:
                 with self.subTest(name, fact=fact):
                     # (that a debug file, or a part of one, is of another file is no matter of its dynamic section)
                     if 'debug' in name:
                         continue
                     if fact in row['unknown']:
-                        self.assertRaises(Refused, getattr, elf, fact)
+                        self.assertRaises(Refused, getattr, elf, call)
                     else:
-                        self.assertEqual(getattr(elf, fact), row[fact])
+                        # (there may be more than one search path)
+                        wanted = row[fact] if fact not in ('rpath', 'runpath') else [] if row[fact] is None else [row[fact]]
+                        self.assertEqual(getattr(elf, call), wanted)
 
 
 class Entries(unittest.TestCase):
@@ -64,8 +67,8 @@ class Entries(unittest.TestCase):
         for name in sorted(os.listdir(stored('made'))):
             if not name.endswith(('.listed', '_debug')):
                 content = content_of(stored(f'made/{name}'))
-                dynamic, pairs = Elf(content).dynamic, self.expected(content)
-                self.assertEqual([(entry.tag, entry.value) for entry in dynamic], pairs)
+                dynamic, pairs = Elf(content).dynamic_section, self.expected(content)
+                self.assertEqual([(entry.d_tag, entry.d_val) for entry in dynamic], pairs)
                 self.assertEqual([dynamic.value(tag) for tag in (DT_NEEDED, DT_SONAME, 0, 99)],
                                  [dict(reversed(pairs)).get(tag) for tag in (DT_NEEDED, DT_SONAME, 0, 99)])
                 tried.update([(content[4], content[5])] if pairs else [])
@@ -73,20 +76,20 @@ class Entries(unittest.TestCase):
 
     def test_sequence(self):
         elf = changed('facts/full')
-        dynamic = elf.dynamic
+        dynamic = elf.dynamic_section
         items = list(dynamic)
         self.assertEqual(([dynamic[index] for index in range(-len(items), len(items))], dynamic[1:3]), (items * 2, items[1:3]))
-        self.assertEqual((items[0].string, items[0].d_tag, items[0].index, DT(items[0].tag).name), ('libfirst.so.1', 1, 0, 'DT_NEEDED'))
+        self.assertEqual((items[0].string, items[0].d_tag, items[0].index, DT(items[0].d_tag).name), ('libfirst.so.1', 1, 0, 'DT_NEEDED'))
         self.assertRegex(repr(items[0]), r'^Dyn\(d_tag=1, d_val=0?x?[0-9a-f]+, index=0\)$')
-        self.assertEqual((type(items[0]), repr(dynamic)), (Dyn, f'<Dynamic: {len(items)} items>'))
+        self.assertEqual((isinstance(items[0], Dyn), repr(dynamic)), (True, f'<Dynamic: {len(items)} items>'))
         self.assertRaises(IndexError, lambda: dynamic[len(items)])
         self.assertRaises(TypeError, dynamic.__setitem__, 0, items[0])
         self.assertRaises(ValueError, dynamic.value, -1)
 
     @unittest.skipUnless(numpy, 'numpy is not installed')
     def test_array(self):
-        dynamic = changed('facts/full').dynamic
-        self.assertEqual(dynamic.array().tolist(), [(entry.tag, entry.value) for entry in dynamic])
+        dynamic = changed('facts/full').dynamic_section
+        self.assertEqual(dynamic.array().tolist(), [(entry.d_tag, entry.d_val) for entry in dynamic])
 
     def test_many_entries(self):
         # more entries than one call reads
@@ -94,10 +97,10 @@ class Entries(unittest.TestCase):
         content = bytearray(elf.bytes) + b''.join(struct.pack('<QQ', 1, index) for index in range(count)) + bytes(16)
         more = Elf(content)
         replace(more, PT_DYNAMIC, p_offset=len(elf.bytes), p_filesz=16 * count + 16)
-        self.assertEqual([(entry.value, entry.index) for entry in more.dynamic], [(index, index) for index in range(count)])
-        self.assertEqual([(entry.value, entry.index) for entry in more.dynamic[2040:2060]], [(index, index) for index in range(2040, 2060)])
+        self.assertEqual([(entry.d_val, entry.index) for entry in more.dynamic_section], [(index, index) for index in range(count)])
+        self.assertEqual([(entry.d_val, entry.index) for entry in more.dynamic_section[2040:2060]], [(index, index) for index in range(2040, 2060)])
         # (without DT_STRTAB they have no names)
-        self.assertEqual(self.refusal(lambda: more.needed), (Kind.NO_STRING, (1, 0), len(elf.bytes)))
+        self.assertEqual(self.refusal(lambda: more.libraries), (Kind.NO_STRING, (1, 0), len(elf.bytes)))
 
     def refusal(self, read):
         with self.assertRaises(Refused) as caught:
@@ -108,15 +111,15 @@ class Entries(unittest.TestCase):
         elf, place = changed('facts/full'), of_type(changed('facts/full'), PT_DYNAMIC).p_offset
         # a name past the strings, strings past the file's end, and an entry that is not whole
         put_value(elf, DT_NEEDED, 1 << 40)
-        self.assertEqual(self.refusal(lambda: elf.needed), (Kind.NO_STRING, (1, 1 << 40), place))
-        self.assertEqual((elf.runpath, elf.soname), ('/made/runpath', None))
+        self.assertEqual(self.refusal(lambda: elf.libraries), (Kind.NO_STRING, (1, 1 << 40), place))
+        self.assertEqual((elf.runpaths, elf.soname), (['/made/runpath'], None))
         put_value(elf, DT_STRSZ, 1 << 40)
-        self.assertEqual(self.refusal(lambda: elf.runpath)[0], Kind.TOO_BIG)
+        self.assertEqual(self.refusal(lambda: elf.runpaths)[0], Kind.TOO_BIG)
         self.assertIsNone(elf.soname)
         replace(elf, PT_DYNAMIC, p_filesz=16 + 15)
-        self.assertEqual([entry.tag for entry in elf.dynamic], [DT_NEEDED])
+        self.assertEqual([entry.d_tag for entry in elf.dynamic_section], [DT_NEEDED])
         replace(elf, PT_DYNAMIC, p_offset=len(elf.bytes))
-        self.assertEqual(self.refusal(lambda: elf.dynamic), (Kind.BAD_OFFSET, (len(elf.bytes),), len(elf.bytes)))
+        self.assertEqual(self.refusal(lambda: elf.dynamic_section), (Kind.BAD_OFFSET, (len(elf.bytes),), len(elf.bytes)))
         for offset, size, kind in ((len(elf.bytes) - 3, 4, Kind.STRTAB_RANGE), (len(elf.bytes) + 1, 4, Kind.STRTAB_OFFSET)):
             replace(elf, PT_INTERP, p_offset=offset, p_filesz=size)
             self.assertEqual(self.refusal(lambda: elf.interpreter)[0], kind)
@@ -124,34 +127,34 @@ class Entries(unittest.TestCase):
     def test_by_sections(self):
         elf = changed('facts/full')
         replace(elf, PT_DYNAMIC, p_type=0x60000000)
-        self.assertEqual((len(elf.dynamic), elf.section_by_type(SHT_DYNAMIC).name), (0, '.dynamic'))
+        self.assertEqual((len(elf.dynamic_section), elf.section_by_type(SHT_DYNAMIC).name), (0, '.dynamic'))
         elf = changed('facts/no_segments')
         section = elf.section_by_type(SHT_DYNAMIC)
-        self.assertEqual((elf.soname, len(elf.segments), elf.dynamic.strings.size), ('libtwo.so.1', 0, section.linked.sh_size))
-        elf.sections[section.index] = section._replace(sh_link=0)
+        self.assertEqual((elf.soname, len(elf.program_headers), elf.dynamic_section.strings.size), ('libtwo.so.1', 0, section.linked_section.sh_size))
+        elf.section_headers[section.index] = section.replace(sh_link=0)
         self.assertEqual(self.refusal(lambda: elf.soname)[0], Kind.NO_STRING)
-        elf.sections[section.index] = section._replace(sh_size=1 << 40)
+        elf.section_headers[section.index] = section.replace(sh_size=1 << 40)
         self.assertEqual(self.refusal(lambda: elf.soname)[0], Kind.TOO_BIG)
 
     def test_names_that_are_not_utf_8(self):
         elf = changed('facts/full')
         elf.put_number(bytes(elf.bytes).index(b'libfirst'), 1, 0xff)
-        self.assertEqual(elf.needed, ['\udcffibfirst.so.1', 'libsecond.so.1'])
+        self.assertEqual(elf.libraries, ['\udcffibfirst.so.1', 'libsecond.so.1'])
 
 
 HOSTILE = r'''
 import struct
 from goblin_elf import Elf, Refused, Strings, Symbols
 count, size, start = 20000, 2 << 20, 64 + 2 * 56
-for closing, step in ((b'a', 1), (bytes(1), 1), (bytes(1), 0)):
+for closing, step, tag in ((b'a', 1, 1), (bytes(1), 1, 1), (bytes(1), 0, 1), (b'a', 1, 29), (bytes(1), 1, 15)):
     strings, offsets = start + 16 * (count + 3), [1 + index * step for index in range(count)]
     content = struct.pack('<16s2HI3QI6H', b'\x7fELF\2\1\1', 3, 62, 1, 0, 64, 0, 0, 64, 56, 2, 64, 0, 0)
     content += struct.pack('<2I6Q2I6Q', 1, 4, 0, 0, 0, strings + size, 0, 1, 2, 4, start, start, 0, strings - start, 0, 8)
-    content += b''.join(struct.pack('<QQ', 1, offset) for offset in offsets) + struct.pack('<6Q', 5, strings, 10, size, 0, 0)
+    content += b''.join(struct.pack('<QQ', tag, offset) for offset in offsets) + struct.pack('<6Q', 5, strings, 10, size, 0, 0)
     content += b'a' * (size - 1) + closing + b''.join(struct.pack('<IBBHQQ', offset, 0, 0, 0, 0, 0) for offset in offsets)
     elf = Elf(content)
     symbols = Symbols(elf, strings + size, 24 * count, Strings(elf, strings, size))
-    for names in (lambda: elf.needed, symbols.names, lambda: symbols.strings.get_all(offsets)):
+    for names in (lambda: elf.libraries or elf.rpaths or elf.runpaths, symbols.names, lambda: symbols.strtab.get_all(offsets))[:3 if tag == 1 else 1]:
         try:
             print(len({id(name) for name in names()}), end=' ')
         except Refused as error:
@@ -164,22 +167,8 @@ class Hostile(unittest.TestCase):
         """Those that nothing closes are refused, and those that overlap, of which 20,000 of 2 MiB would take 40 GB. Those at one offset are one."""
         found = subprocess.run([sys.executable, '-c', HOSTILE], stdout=subprocess.PIPE, stderr=subprocess.PIPE, timeout=60, encoding='utf-8',
                                preexec_fn=limit_memory)
-        expected = ['OPEN_STRING', '1', '1'] * 3 + ['OVERLAP', '9', str(2 << 20), '0'] * 3 + ['1'] * 3
+        expected = ['OPEN_STRING', '1', '1'] * 3 + ['OVERLAP', '9', str(2 << 20), '0'] * 3 + ['1'] * 3 + ['OVERLAP', '9', str(2 << 20), '0'] * 2
         self.assertEqual((found.stdout.split(), found.stderr), (expected, ''))
-
-
-def library(*names):
-    """Returns a library for x86-64 that has only entries of the dynamic section, which name texts."""
-    strings, entries, start = b'\0', [], 64 + 2 * 56
-    for tag, text in names:
-        entries.append((tag, len(strings)))
-        strings += text.encode() + b'\0'
-    at = start + 16 * (len(entries) + 3)
-    dynamic = b''.join(struct.pack('<QQ', *entry) for entry in [*entries, (DT.DT_STRTAB, at), (DT.DT_STRSZ, len(strings)), (0, 0)])
-    header = struct.pack('<4s12B2HI3QI6H', b'\x7fELF', 2, 1, 1, *bytes(9), 3, 62, 1, 0, 64, 0, 0, 64, 56, 2, 64, 0, 0)
-    segments = [struct.pack('<2I6Q', kind, 4, offset, offset, offset, size, size, 8) for kind, offset, size in
-                [(1, 0, at + len(strings)), (2, start, len(dynamic))]]
-    return header + b''.join(segments) + dynamic + strings
 
 
 class Example(unittest.TestCase):
@@ -189,7 +178,7 @@ class Example(unittest.TestCase):
 
     def test_lddtree_finds_what_ld_so_finds(self):
         """What ldd finds of libraries that gcc made with these names and paths, and for ld.so.conf, what its manual page says."""
-        needed, soname, rpath, runpath = (lambda text, tag=tag: (tag, text) for tag in (DT_NEEDED, DT_SONAME, DT.DT_RPATH, DT.DT_RUNPATH))
+        needed, soname, rpath, runpath = (lambda text, tag=tag: (tag, text.encode()) for tag in (DT_NEEDED, DT_SONAME, DT.DT_RPATH, DT.DT_RUNPATH))
         files = {
             # (one is loaded already by its own name, another one for a program above, beside whose DT_RUNPATH its DT_RPATH does not count)
             'prog': [*map(needed, ('libmid.so', 'libone.so', 'libset.so', 'libmore.so')), rpath('/a')],
@@ -202,7 +191,7 @@ class Example(unittest.TestCase):
             for name, names in files.items():
                 os.makedirs(os.path.dirname(os.path.join(root, name)), exist_ok=True)
                 with open(os.path.join(root, name), 'wb') as file:
-                    file.write(library(*names))
+                    file.write(made.linked(*names))
             os.makedirs(os.path.join(root, 'etc/conf.d'))
             for name, text in (('ld.so.conf', 'include conf.d/*.conf # more\n\n/usr/local/lib\n'),
                                ('conf.d/opt.conf', '/opt/lib\ninclude /etc/ld.so.conf\n')):
@@ -253,7 +242,3 @@ class Example(unittest.TestCase):
                          [(0, ''), (1, 'refused: type is too big (384) for 40\n'), (0, ''), (1, '\\x1babsent: No such file or directory\n'),
                           (1, 'usage: lddtree.py FILE [ROOT]\n'), (1, 'refused: Malformed entity: Too small\n'),
                           *((1, f'{path}: it is no ordinary file\n') for path in ('/dev/zero', fifo)), (1, f'{odd}: No space left on device\n')])
-
-
-if __name__ == '__main__':
-    unittest.main()

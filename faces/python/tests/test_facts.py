@@ -13,9 +13,10 @@ import unittest.mock
 from goblin_elf import (DT_JMPREL, DT_NEEDED, DT_PLTRELSZ, DT_STRSZ, EM_MIPS, PT_DYNAMIC, PT_GNU_RELRO, PT_GNU_STACK, PT_INTERP, PT_NOTE, SHT_RELA,
                         SHT_SYMTAB, Elf)
 from goblin_elf import __main__ as program
-from goblin_elf import facts as facts_module
-from goblin_elf import marks, scan
-from goblin_elf.facts import FACTS, SEARCHED, facts
+from goblin_elf import _facts as facts_module
+from goblin_elf import _marks as marks
+from goblin_elf import scan
+from goblin_elf._facts import FACTS, SEARCHED, facts
 
 import made
 from parts import FILES, changed, content_of, of_type, put_value, replace, stored
@@ -90,24 +91,38 @@ class Table(unittest.TestCase):
                              {fact: value for fact, value in one.items() if fact in described and fact != 'unknown'})
 
 
+LINKED = ['soname', 'rpath', 'runpath', 'needed', 'pie', 'relro', 'bind_now']
+
+
+def with_more(elf, more, kind, **fields):
+    """Returns a file with more bytes, which are those of the first segment of a type."""
+    longer = Elf(bytearray(elf.bytes) + more)
+    replace(longer, kind, **{'p_offset': len(elf.bytes), **fields})
+    return longer
+
+
 class Facts(unittest.TestCase):
+    def check(self, elf, unknown=None, **expected):
+        """Whether some facts of a file are these, and which are unknown."""
+        found = facts(elf)
+        if unknown is not None:
+            expected['unknown'] = unknown
+        self.assertEqual({name: found[name] for name in expected}, expected)
+
     def test_what_is_unknown(self):
-        linked = ['soname', 'rpath', 'runpath', 'needed', 'pie', 'relro', 'bind_now']
         elf, count = changed('facts/full'), 4097
         # a name that is not in the strings, strings and an interpreter that are not in the file, and more entries than are read
-        for offset in (1 << 40, elf.dynamic.strings.size):
+        for offset in (1 << 40, elf.dynamic_section.strings.size):
             put_value(elf, DT_NEEDED, offset)
-            self.assertEqual((facts(elf)['unknown'], facts(elf)['refused']), (['needed'], 'NO_STRING'))
+            self.check(elf, ['needed'], refused='NO_STRING')
         put_value(elf, DT_STRSZ, 1 << 40)
-        self.assertEqual((facts(elf)['unknown'], facts(elf)['refused']), (['runpath', 'needed'], 'TOO_BIG'))
+        self.check(elf, ['runpath', 'needed'], refused='TOO_BIG')
         replace(elf, PT_INTERP, p_filesz=1 << 40)
-        self.assertEqual((facts(elf)['unknown'], facts(elf)['refused']), (['interpreter', 'runpath', 'needed'], 'STRTAB_RANGE'))
+        self.check(elf, ['interpreter', 'runpath', 'needed'], refused='STRTAB_RANGE')
         replace(elf, PT_DYNAMIC, p_filesz=0)
-        self.assertEqual(facts(elf)['unknown'], ['interpreter', *linked])
-        many = Elf(bytearray(changed('facts/full').bytes) + struct.pack('<QQ', 1, 1) * count)
-        for entries, unknown in ((count - 1, ['needed']), (count, linked)):
-            replace(many, PT_DYNAMIC, p_offset=len(elf.bytes), p_filesz=16 * entries)
-            self.assertEqual(facts(many)['unknown'], unknown)
+        self.check(elf, ['interpreter', *LINKED])
+        for entries, unknown in ((count - 1, ['needed']), (count, LINKED)):
+            self.check(with_more(changed('facts/full'), struct.pack('<QQ', 1, 1) * count, PT_DYNAMIC, p_filesz=16 * entries), unknown)
 
     def test_cut_files(self):
         """What is said of a part of a file is true of all of it, or unknown."""
@@ -126,172 +141,158 @@ class Facts(unittest.TestCase):
         """A name is known if it has fewer than 4,096 bytes, and a build ID if it has at most 64."""
         elf = changed('facts/full')
         for name, expected in ((b'\xff' * 4095, '\udcff' * 4095), (b'\xff' * 4096, None), ('\xe9'.encode() * 2048, None)):
-            longer = Elf(bytearray(elf.bytes) + name + bytes(8))
-            replace(longer, PT_INTERP, p_offset=len(elf.bytes), p_filesz=len(name) + 1)
-            self.assertEqual((facts(longer)['interpreter'], facts(longer)['unknown']), (expected, [] if expected else ['interpreter']))
+            longer = with_more(elf, name + bytes(8), PT_INTERP, p_filesz=len(name) + 1)
+            self.check(longer, [] if expected else ['interpreter'], interpreter=expected)
             self.assertEqual(longer.interpreter, name.decode('utf-8', 'surrogateescape'))
         # (what of it would be read is in the file, and not all of it)
         replace(longer, PT_INTERP, p_filesz=len(name) + 100)
-        self.assertEqual((facts(longer)['unknown'], facts(longer)['refused']), (['interpreter'], 'STRTAB_RANGE'))
+        self.check(longer, ['interpreter'], refused='STRTAB_RANGE')
         for size, unknown in ((64, []), (65, ['build_id'])):
-            longer = Elf(bytearray(elf.bytes) + struct.pack('<III', 4, size, 3) + b'GNU\0' + b'\xab' * size + bytes(8))
-            replace(longer, PT_NOTE, p_offset=len(elf.bytes), p_filesz=16 + size, p_align=4)
-            self.assertEqual((facts(longer)['build_id'], facts(longer)['unknown']), (None if unknown else 'ab' * size, unknown))
+            note = struct.pack('<III', 4, size, 3) + b'GNU\0' + b'\xab' * size + bytes(8)
+            self.check(with_more(elf, note, PT_NOTE, p_filesz=16 + size, p_align=4), unknown, build_id=None if unknown else 'ab' * size)
 
     def test_notes_past_those_that_are_read(self):
         """A note is known if it is one of the first 65,536, with the segment that they are in, and its marks if they have at most 65,536 bytes."""
         note = lambda name, kind, desc: struct.pack('<III', 4, len(desc), kind) + name + desc
-        elf, mark = changed('facts/full'), struct.pack('<III', 0xc0000002, 4, 1)
-        for more, size, expected in ((65533, 12, ('ab', ['IBT'], [])), (65534, 12, ('ab', None, ['control_flow'])),
-                                     (65535, 12, (None, None, ['build_id', 'control_flow'])), (0, 65536, ('ab', ['IBT'], [])),
-                                     (0, 65540, ('ab', None, ['control_flow']))):
+        elf, mark, build_id = changed('facts/full'), struct.pack('<III', 0xc0000002, 4, 1), 'ab000000'
+        for more, size, *expected in ((65533, 12, build_id, ['IBT'], []), (65534, 12, build_id, None, ['control_flow']),
+                                      (65535, 12, None, None, ['build_id', 'control_flow']), (0, 65536, build_id, ['IBT'], []),
+                                      (0, 65540, build_id, None, ['control_flow'])):
             notes = note(b'ABC\0', 1, b'') * more + note(b'GNU\0', 3, b'\xab\0\0\0') + note(b'GNU\0', 5, mark.ljust(size, b'\0'))
-            longer = Elf(bytearray(elf.bytes) + notes)
-            replace(longer, PT_NOTE, p_offset=len(elf.bytes), p_filesz=len(notes), p_align=4)
-            found = facts(longer)
-            self.assertEqual((found['build_id'] and found['build_id'][:2], found['control_flow'], found['unknown']), expected)
-            self.assertEqual(longer.build_id is None, 'build_id' in found['unknown'])
+            longer = with_more(elf, notes, PT_NOTE, p_filesz=len(notes), p_align=4)
+            self.check(longer, expected[2], build_id=expected[0], control_flow=expected[1])
+            self.assertEqual(longer.build_id is None, 'build_id' in expected[2])
 
     def test_names_past_those_that_are_read(self):
         """Compilers are known if all have at most 65,536 bytes, and a canary if its name is one of the first 64 that the strings have."""
         elf = changed('facts/two_compilers')
-        comment = elf.section('.comment')
-        for size, expected in ((65536, (['a'], [])), (65537, (None, ['compilers']))):
+        comment = elf.section_by_name('.comment')
+        for size, expected, unknown in ((65536, ['a'], []), (65537, None, ['compilers'])):
             longer = Elf(bytearray(elf.bytes) + (b'a\0' * 32769)[:size])
-            longer.sections[comment.index] = comment._replace(sh_offset=len(elf.bytes), sh_size=size)
-            self.assertEqual((facts(longer)['compilers'], facts(longer)['unknown']), expected)
+            longer.section_headers[comment.index] = comment.replace(sh_offset=len(elf.bytes), sh_size=size)
+            self.check(longer, unknown, compilers=expected)
+        for count, expected, unknown in ((63, True, []), (64, None, ['canary'])):
+            self.check(self.with_names(b''.join(b'__stack_chk_guard@%d\0' % number for number in range(count))), unknown, canary=expected)
+
+    def with_names(self, names):
+        """Returns a file whose strings have more names, the last of which is that of its symbol of a canary."""
         elf = changed('facts/object')
-        symbol, strings = elf.symbols.find('__stack_chk_fail@GLIBC_2.4'), elf.section_by_type(SHT_SYMTAB).linked
-        for count, expected in ((63, (True, [])), (64, (None, ['canary']))):
-            names = b''.join(b'__stack_chk_guard@%d\0' % number for number in range(count))
-            longer = Elf(bytearray(elf.bytes) + bytes(strings.bytes) + names)
-            longer.sections[strings.index] = strings._replace(sh_offset=len(elf.bytes), sh_size=strings.sh_size + len(names))
-            longer.symbols[symbol.index] = symbol._replace(st_name=strings.sh_size + names.rindex(b'__'))
-            self.assertEqual((facts(longer)['canary'], facts(longer)['unknown']), expected)
+        symbol, strings = elf.syms.symbol_by_name('__stack_chk_fail@GLIBC_2.4'), elf.section_by_type(SHT_SYMTAB).linked_section
+        longer = Elf(bytearray(elf.bytes) + bytes(strings.data) + names)
+        longer.section_headers[strings.index] = strings.replace(sh_offset=len(elf.bytes), sh_size=strings.sh_size + len(names))
+        longer.syms[symbol.index] = symbol.replace(st_name=strings.sh_size + names.rindex(b'__'))
+        return longer
 
     def test_headers_past_those_that_are_read(self):
         """Segments are known if there are at most 131,072, and sizes if there are at most 1,048,576 sections."""
         for count, known in ((1 << 17, True), ((1 << 17) + 1, False)):
-            head = struct.pack('<' + made.EHDR[64], b'\x7fELF\2\1\1', 2, 62, 1, 0, 128, 64, 0, 64, 56, 0xffff, 64, 1, 0)
-            section = struct.pack('<' + made.SHDR[64], 0, 0, 0, 0, 0, 1, 0, count, 0, 0)
-            found = facts(Elf(head + section + bytes(56 * (count - 1)) + struct.pack('<' + made.PHDR[64], PT_GNU_STACK, 6, 0, 0, 0, 0, 0, 0)))
-            self.assertEqual((found['nx'], found['cut'], found['segments']), (True, False, count) if known else (None, None, count))
+            stack = struct.pack('<' + made.PHDR[64], PT_GNU_STACK, 6, 0, 0, 0, 0, 0, 0)
+            elf = Elf(made.head(2, 128, 0xffff, 64, 1) + made.section_header(0, info=count) + bytes(56 * (count - 1)) + stack)
             unknown = ['build_id', 'interpreter', 'nx', 'relro', 'bind_now', 'writable_code', 'canary', 'control_flow', 'cut']
-            self.assertEqual(found['unknown'], ['canary'] if known else unknown)
+            self.check(elf, ['canary'] if known else unknown, nx=True if known else None, cut=False if known else None, segments=count)
         count = (1 << 20) + 1
-        head = struct.pack('<' + made.EHDR[64], b'\x7fELF\2\1\1', 1, 62, 1, 0, 0, 64, 0, 64, 0, 0, 64, 0, 0)
-        found = facts(Elf(head + struct.pack('<' + made.SHDR[64], 0, 0, 0, 0, 0, count, 0, 0, 0, 0) + bytes(64 * (count - 1))))
+        found = facts(Elf(made.head(1, shoff=64) + made.section_header(0, size=count) + bytes(64 * (count - 1))))
         self.assertEqual((found['sizes'], found['sections'], found['unknown'][-2:]), (None, count, ['cut', 'sizes']))
 
     def test_tables_past_those_that_are_searched(self):
         """A section, a segment or a symbol is looked for in at most 16,777,216, and a canary in 1 GiB of strings. (A sparse file may have more.)"""
         elf = changed('facts/object')
         table = elf.section_by_type(SHT_SYMTAB)
-        more = Elf(bytearray(elf.bytes) + bytes(table.bytes) + bytes(12 * 24))
-        more.sections[table.index] = table._replace(sh_offset=len(elf.bytes), sh_size=table.sh_size + 12 * 24)
-        self.assertEqual((len(more.sections), len(more.symbols), SEARCHED, marks.STRINGS), (13, 20, 1 << 24, 1 << 30))
-        by_section = ['build_id', 'soname', 'rpath', 'runpath', 'needed', 'canary', 'control_flow', 'compilers', 'stripped', 'symbols',
-                      'dynamic_symbols']
+        more = Elf(bytearray(elf.bytes) + bytes(table.data) + bytes(12 * 24))
+        more.section_headers[table.index] = table.replace(sh_offset=len(elf.bytes), sh_size=table.sh_size + 12 * 24)
+        self.assertEqual((len(more.section_headers), len(more.syms), SEARCHED, marks.STRINGS), (13, 20, 1 << 24, 1 << 30))
+        by_section = ['build_id', *LINKED[:4], 'canary', 'control_flow', 'compilers', 'stripped', 'symbols', 'dynamic_symbols']
+        size = table.linked_section.sh_size
         for module, name, most, unknown in ((facts_module, 'SEARCHED', 20, []), (facts_module, 'SEARCHED', 19, ['canary']),
-                                            (facts_module, 'SEARCHED', 12, by_section), (marks, 'STRINGS', table.linked.sh_size, []),
-                                            (marks, 'STRINGS', table.linked.sh_size - 1, ['canary'])):
+                                            (facts_module, 'SEARCHED', 12, by_section), (marks, 'STRINGS', size, []),
+                                            (marks, 'STRINGS', size - 1, ['canary'])):
             with unittest.mock.patch.object(module, name, most):
-                self.assertEqual((facts(more)['canary'], facts(more)['unknown']), (None if unknown else True, unknown))
+                self.check(more, unknown, canary=None if unknown else True)
         stripped = changed('made/x86_64_stripped')
-        linked = ['soname', 'rpath', 'runpath', 'needed', 'pie', 'relro', 'bind_now']
-        for most, unknown in ((8, ['canary']), (7, [*linked, 'canary'])):
+        self.assertEqual(len(stripped.program_headers), 8)
+        for most, unknown in ((8, ['canary']), (7, [*LINKED, 'canary'])):
             with unittest.mock.patch.object(facts_module, 'SEARCHED', most):
-                self.assertEqual((len(stripped.segments), facts(stripped)['unknown']), (8, unknown))
+                self.check(stripped, unknown)
 
     def test_more_sections_than_the_header_counts(self):
         count = 0xff10
-        section = struct.pack('<' + made.SHDR[64], 0, 1, 0, 0, 0, 2, 0, 0, 1, 0)
-        first = struct.pack('<' + made.SHDR[64], 0, 0, 0, 0, 0, count, 0, 0, 0, 0)
-        head = struct.pack('<' + made.EHDR[64], b'\x7fELF\2\1\1', 1, 62, 1, 0, 0, 64, 0, 64, 0, 0, 64, 0, 0)
-        found = facts(Elf(head + first + section * (count - 1)))
+        content = made.head(1, shoff=64) + made.section_header(0, size=count) + made.section_header(1, size=2) * (count - 1)
+        found = facts(Elf(content))
         self.assertEqual((found['sections'], found['sizes']['not_loaded'], found['cut'], found['stripped']), (count, 2 * (count - 1), False, True))
 
     def test_small_files(self):
         """A section that ends with the file, one that ends after it, and one without bytes that lies past it, all without bytes in memory."""
         for offset, size, cut in ((192, 8, False), (192, 9, True), (200, 1, True), (1 << 60, 0, False)):
-            head = struct.pack('<' + made.EHDR[64], b'\x7fELF\2\1\1', 1, 62, 1, 0, 0, 64, 0, 64, 0, 0, 64, 2, 0)
-            section = struct.pack('<' + made.SHDR[64], 0, 1, 0, 0, offset, size, 0, 0, 1, 0)
-            self.assertEqual(facts(Elf(head + bytes(64) + section + bytes(8)))['cut'], cut)
+            self.check(Elf(made.head(1, shoff=64, shnum=2) + bytes(64) + made.section_header(1, offset, size) + bytes(8)), cut=cut)
         # (only a program or a library has a debug file)
-        section = struct.pack('<' + made.SHDR[64], 0, 8, 2, 0, 1 << 60, 7, 0, 0, 1, 0)
-        found = [facts(Elf(head[:16] + bytes((kind, 0)) + head[18:] + bytes(64) + section)) for kind in (1, 2, 3)]
-        self.assertEqual([(row['kind'], row['cut'], row['sizes']['zeros']) for row in found],
-                         [('object', False, 7), ('debug file', False, 7), ('debug file', False, 7)])
+        for kind, expected in ((1, 'object'), (2, 'debug file'), (3, 'debug file')):
+            found = facts(Elf(made.head(kind, shoff=64, shnum=2) + bytes(64) + made.section_header(8, 1 << 60, 7, flags=2)))
+            self.assertEqual((found['kind'], found['cut'], found['sizes']['zeros']), (expected, False, 7))
 
     def test_segments(self):
         elf = changed('facts/full')
         replace(elf, PT_GNU_STACK, p_flags=7, p_offset=1 << 40)
-        self.assertEqual([facts(elf)[name] for name in ('nx', 'writable_code', 'cut')], [False, False, False])
+        self.check(elf, nx=False, writable_code=False, cut=False)
         # (a segment of type PT_NULL has no bytes)
-        replace(elf, PT_GNU_STACK, p_filesz=1)
-        self.assertTrue(facts(elf)['cut'])
-        replace(elf, PT_GNU_STACK, p_type=0)
-        self.assertFalse(facts(elf)['cut'])
+        for fields, cut in (({'p_filesz': 1}, True), ({'p_type': 0}, False)):
+            replace(elf, PT_GNU_STACK, **fields)
+            self.check(elf, cut=cut)
 
     def test_canaries(self):
         # the name is that of a symbol, and all of it
         for change, expected in ((lambda name: name, True), (lambda name: name + 1, False), (lambda name: 0, False)):
             elf = changed('facts/object')
-            symbol = elf.symbols.find('__stack_chk_fail@GLIBC_2.4')
-            elf.symbols[symbol.index] = symbol._replace(st_name=change(symbol.st_name))
-            self.assertEqual((facts(elf)['canary'], facts(elf)['unknown']), (expected, []))
+            symbol = elf.syms.symbol_by_name('__stack_chk_fail@GLIBC_2.4')
+            elf.syms[symbol.index] = symbol.replace(st_name=change(symbol.st_name))
+            self.check(elf, [], canary=expected)
         for name, expected in (('fail', True), ('fail_local', True), ('guard', True), ('guard@@A', True), ('failed', False), ('guards@A', False)):
             elf = changed('facts/object')
             put(elf, b'__stack_chk_fail@GLIBC_2.4', f'__stack_chk_{name}'.encode().ljust(26, b'\0'))
-            self.assertEqual(facts(elf)['canary'], expected)
+            self.check(elf, canary=expected)
         # (the first of these names in the strings may be that of no symbol)
-        whole = changed('facts/object')
-        symbol, strings = whole.symbols.find('__stack_chk_fail@GLIBC_2.4'), whole.section_by_type(SHT_SYMTAB).linked
-        more = Elf(bytearray(whole.bytes) + bytes(strings.bytes) + b'__stack_chk_guard\0')
-        more.sections[strings.index] = strings._replace(sh_offset=len(whole.bytes), sh_size=strings.sh_size + 18)
-        more.symbols[symbol.index] = symbol._replace(st_name=strings.sh_size)
-        self.assertEqual(facts(more)['canary'], True)
+        self.check(self.with_names(b'__stack_chk_guard\0'), canary=True)
         table = elf.section_by_type(SHT_SYMTAB)
-        elf.sections[table.index] = table._replace(sh_type=1)
-        self.assertEqual((facts(elf)['canary'], facts(elf)['unknown']), (None, ['canary']))
+        elf.section_headers[table.index] = table.replace(sh_type=1)
+        self.check(elf, ['canary'], canary=None)
 
     def test_what_the_dynamic_section_says(self):
         """An ET_DYN is a program by DT_DEBUG or by DF_1_PIE, and it is bound at its start by a tag or by a flag of one of two."""
-        for tag, value, expected in ((21, 0, ('program', True, False, 'partial')), (0x6ffffffb, 1 << 27, ('program', True, False, 'partial')),
-                                     (0x6ffffffb, 1, ('library', False, True, 'full')), (30, 8, ('library', False, True, 'full')),
-                                     (24, 0, ('library', False, True, 'full')), (30, 1 << 27, ('library', False, False, 'partial'))):
+        for tag, value, *expected in ((21, 0, 'program', True, False, 'partial'), (0x6ffffffb, 1 << 27, 'program', True, False, 'partial'),
+                                      (0x6ffffffb, 1, 'library', False, True, 'full'), (30, 8, 'library', False, True, 'full'),
+                                      (24, 0, 'library', False, True, 'full'), (30, 1 << 27, 'library', False, False, 'partial')):
             elf = changed('facts/full')
             place = of_type(elf, PT_DYNAMIC).p_offset
-            places = [place + 16 * entry.index for entry in elf.dynamic if entry.tag in (21, 30, 0x6ffffffb)]
+            places = [place + 16 * entry.index for entry in elf.dynamic_section if entry.d_tag in (21, 30, 0x6ffffffb)]
             for at, number in zip(places, (tag, 0x60000000, 0x60000000)):
                 elf.put_number(at, 8, number)
                 elf.put_number(at + 8, 8, value)
-            self.assertEqual(tuple(facts(elf)[name] for name in ('kind', 'pie', 'bind_now', 'relro')), expected)
-        elf.put_header(elf.header._replace(e_type=0xfe00))
-        self.assertEqual((facts(elf)['kind'], facts(elf)['nx'], facts(elf)['unknown']), ('other', None, []))
+            self.check(elf, **dict(zip(('kind', 'pie', 'bind_now', 'relro'), expected)))
+        elf.put_header(elf.header.replace(e_type=0xfe00))
+        self.check(elf, [], kind='other', nx=None)
 
     def test_slots(self):
         """PT_GNU_RELRO holds a slot exactly if it holds all of its bytes. The table has files whose slots were written at run time."""
         for name in ('closed_slots', 'closed_slots_pie', 'full'):
             elf = changed(f'facts/{name}')
-            tables = [section.relocations for section in elf.sections if section.sh_type == SHT_RELA]
+            tables = [section.relocs for section in elf.section_headers if section.sh_type == SHT_RELA]
             slots = [slot.r_offset for table in tables for slot in table if slot.r_type in (7, 37)]
             first, last = min(slots), max(slots)
             for start, end, expected in ((first, last + 8, 'full'), (first + 1, last + 8, 'partial'), (first, last + 7, 'partial')):
                 replace(elf, PT_GNU_RELRO, p_vaddr=start, p_memsz=end - start)
-                self.assertEqual((facts(elf)['relro'], facts(elf)['bind_now']), (expected, True if name == 'full' else None))
+                self.check(elf, relro=expected, bind_now=True if name == 'full' else None)
             # (of two loaders take the last one)
-            held, empty = of_type(elf, PT_GNU_RELRO)._replace(p_memsz=last + 8 - first), of_type(elf, PT_GNU_STACK)._replace(p_type=PT_GNU_RELRO)
+            held, empty = of_type(elf, PT_GNU_RELRO).replace(p_memsz=last + 8 - first), of_type(elf, PT_GNU_STACK).replace(p_type=PT_GNU_RELRO)
+            self.assertLess(empty.index, held.index)
             for earlier, later, expected in ((empty, held, 'full'), (held, empty, 'partial')):
-                elf.segments[empty.index], elf.segments[held.index] = earlier, later
-                self.assertEqual((empty.index < held.index, facts(elf)['relro']), (True, expected))
+                elf.program_headers[empty.index], elf.program_headers[held.index] = earlier, later
+                self.check(elf, relro=expected)
 
     def test_slots_that_are_unknown(self):
         """Without tables that say where they are, with tables that are not in the file, and by a machine without a number."""
         elf = changed('facts/closed_slots')
-        self.assertEqual((facts(elf)['relro'], facts(elf)['unknown']), ('full', ['canary']))
+        self.check(elf, ['canary'], relro='full')
         for changes in ({'e_shoff': 0, 'e_shnum': 0, 'e_shstrndx': 0}, {'e_machine': EM_MIPS}):
-            elf.put_header(elf.header._replace(**changes))
+            elf.put_header(elf.header.replace(**changes))
             self.assertIn('relro', facts(elf)['unknown'])
             elf = changed('facts/closed_slots')
         replace(elf, PT_GNU_STACK, p_type=PT_INTERP, p_filesz=1)
@@ -300,19 +301,17 @@ class Facts(unittest.TestCase):
         for fields, expected in (({'sh_flags': 0}, 'full'), ({'sh_offset': 1 << 40}, None)):
             elf = changed('facts/open_slots')
             section = elf.section_by_type(SHT_RELA)
-            elf.sections[section.index] = section._replace(**fields)
-            self.assertEqual(facts(elf)['relro'], expected)
-        for tag, value in ((DT_JMPREL, 1 << 40), (DT_PLTRELSZ, 1 << 40)):
+            elf.section_headers[section.index] = section.replace(**fields)
+            self.check(elf, relro=expected)
+        for tag in (DT_JMPREL, DT_PLTRELSZ):
             elf = changed('facts/closed_slots_pie')
-            put_value(elf, tag, value)
-            self.assertEqual(facts(elf)['unknown'], ['relro', 'canary'])
+            put_value(elf, tag, 1 << 40)
+            self.check(elf, ['relro', 'canary'])
         # (a slot is read of at most so many relocations, and sections of them)
-        for name, most, expected in (('RELOCATIONS', 2, 'full'), ('RELOCATIONS', 1, None)):
+        for file, name, most, expected in (('closed_slots_pie', 'RELOCATIONS', 2, 'full'), ('closed_slots_pie', 'RELOCATIONS', 1, None),
+                                           ('closed_slots', 'ENTRIES', 1, 'full'), ('closed_slots', 'ENTRIES', 0, None)):
             with unittest.mock.patch.object(facts_module, name, most):
-                self.assertEqual(facts(changed('facts/closed_slots_pie'))['relro'], expected)
-        for most, expected in ((1, 'full'), (0, None)):
-            with unittest.mock.patch.object(facts_module, 'ENTRIES', most):
-                self.assertEqual(facts(changed('facts/closed_slots'))['relro'], expected)
+                self.check(changed(f'facts/{file}'), relro=expected)
 
     def test_types_of_slots(self):
         """They are those whose number a machine's supplement of the gABI has for R_.._IRELATIVE."""
@@ -320,10 +319,9 @@ class Facts(unittest.TestCase):
             elf = changed('facts/open_slots')
             section = elf.section_by_type(SHT_RELA)
             for other, expected in ((kind, 'partial'), (kind + 1, 'full')):
-                relocation = section.relocations[0]
-                section.relocations[0] = relocation._replace(r_type=other)
-                elf.put_header(changed('facts/open_slots').header._replace(e_machine=machine))
-                self.assertEqual(facts(elf)['relro'], expected, machine)
+                section.relocs[0] = section.relocs[0].replace(r_type=other)
+                elf.put_header(changed('facts/open_slots').header.replace(e_machine=machine))
+                self.check(elf, relro=expected)
 
     def test_marks(self):
         """The property of a machine may come after others, and end with the note."""
@@ -332,15 +330,14 @@ class Facts(unittest.TestCase):
                 ('facts/full', 62, 8, '<', 0xc0000002, ['IBT', 'SHSTK']), ('made/i386_library', 3, 4, '<', 0xc0000002, ['IBT', 'SHSTK']),
                 ('made/s390x_library', 183, 8, '>', 0xc0000000, ['BTI', 'PAC'])):
             for properties, expected in (((other, (kind, 4, 1)), names[:1]), (((kind, 4, 2),), names[1:]), ((other,), []), ((cut,), [])):
-                elf = changed(name)
                 desc = b''.join(struct.pack(order + 'III', *one).ljust(12 + (-4 % wide), b'\0') for one in properties)
-                longer = Elf(bytearray(elf.bytes) + struct.pack(order + 'III', 4, len(desc), 5) + b'GNU\0' + desc)
-                longer.put_header(longer.header._replace(e_machine=machine))
-                replace(longer, PT_NOTE, p_offset=len(elf.bytes), p_filesz=16 + len(desc), p_align=wide)
-                self.assertEqual(facts(longer)['control_flow'], expected)
+                note = struct.pack(order + 'III', 4, len(desc), 5) + b'GNU\0' + desc
+                longer = with_more(changed(name), note, PT_NOTE, p_filesz=len(note), p_align=wide)
+                longer.put_header(longer.header.replace(e_machine=machine))
+                self.check(longer, control_flow=expected)
         elf = changed('facts/full')
         put(elf, b'GNU\0\x02\0\0\xc0', b'GNV\0')
-        self.assertEqual(facts(elf)['control_flow'], [])
+        self.check(elf, control_flow=[])
 
     def test_nothing_keeps_the_file(self):
         """Without a collection, also if facts are refused or unknown."""
@@ -356,9 +353,9 @@ class Facts(unittest.TestCase):
 
     def test_compilers(self):
         elf = changed('facts/two_compilers')
-        comment = bytes(elf.section('.comment').bytes)
+        comment = bytes(elf.section_by_name('.comment').data)
         put(elf, comment, b'two\0LLD 9\0GNU ld 1\0one\0two\0GNU gold\0mold 1\0\xff'.ljust(len(comment), b'\0'))
-        self.assertEqual(facts(elf)['compilers'], ['two', 'one', '\udcff'])
+        self.check(elf, compilers=['two', 'one', '\udcff'])
 
 
 def put(elf, old, new):
@@ -366,7 +363,3 @@ def put(elf, old, new):
     start = bytes(elf.bytes).index(old)
     for index, byte in enumerate(new):
         elf.put_number(start + index, 1, byte)
-
-
-if __name__ == '__main__':
-    unittest.main()

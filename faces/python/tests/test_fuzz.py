@@ -4,13 +4,13 @@ FUZZ is how many files are tried, by default 300.
 """
 import os
 import random
-import threading
 import unittest
 
 from goblin_elf import Dynamic, Elf, Header, Kind, Notes, Refused, Relocations, Strings, Symbols
-from goblin_elf.facts import facts
+from goblin_elf._facts import facts
 
 import made
+from parts import started
 
 COUNT = int(os.environ.get('FUZZ', 300))
 
@@ -29,15 +29,15 @@ class Reader:
     def all(self):
         elf, number = self.elf, self.number
         range_of = (number(), number())
-        for step in (lambda: elf.sections, lambda: elf.segments, lambda: elf.symbols, lambda: elf.dynamic_symbols, lambda: list(elf.notes),
-                     lambda: elf.build_id, lambda: facts(elf), lambda: elf.whole().sections, lambda: elf.whole().segments,
-                     lambda: elf.section('.text'), lambda: elf.section_by_type(number(32), number()), lambda: elf.symbol_at(number()),
-                     lambda: elf.offset_of(number()), lambda: elf.number(number(), 8), lambda: Symbols(elf, *range_of),
-                     lambda: elf.dynamic, lambda: elf.needed, lambda: elf.soname, lambda: elf.rpath, lambda: elf.runpath,
+        for step in (lambda: elf.section_headers, lambda: elf.program_headers, lambda: elf.syms, lambda: elf.dynsyms, lambda: list(elf.notes),
+                     lambda: elf.build_id, lambda: facts(elf), lambda: elf.whole().section_headers, lambda: elf.whole().program_headers,
+                     lambda: elf.section_by_name('.text'), lambda: elf.section_by_type(number(32), number()), lambda: elf.symbol_by_address(number()),
+                     lambda: elf.address_to_offset(number()), lambda: elf.number(number(), 8), lambda: Symbols(elf, *range_of),
+                     lambda: elf.dynamic_section, lambda: elf.libraries, lambda: elf.soname, lambda: elf.rpaths, lambda: elf.runpaths,
                      lambda: elf.interpreter, lambda: Dynamic(elf, *range_of), lambda: Dynamic(elf, *range_of).value(number()),
                      lambda: Relocations(elf, *range_of, bool(number() & 1)), lambda: Notes(elf, *range_of, number()),
                      lambda: Strings(elf, *range_of).get(number()), lambda: Strings(elf, *range_of).get_bytes(number()),
-                     lambda: Strings(elf, *range_of).get_closed(number()), lambda: Strings(elf, *range_of).is_at(number(), b'a'),
+                     lambda: Strings(elf, *range_of).get_closed_bytes(number()), lambda: Strings(elf, *range_of).is_at(number(), b'a'),
                      lambda: Strings(elf, *range_of).starts_at(number(), b'a'), lambda: Strings(elf, *range_of).get_all([number()] * 3),
                      lambda: repr(elf.header)):
             found = self.step(step)
@@ -56,7 +56,7 @@ class Reader:
 
     def items(self, table):
         for item in list(table)[:50]:
-            for name in ('name', 'bytes', 'bytes_in_file', 'linked', 'symbols', 'relocations', 'notes', 'symbol', 'string'):
+            for name in ('name', 'data', 'readable_data', 'linked_section', 'symtab', 'relocs', 'notes', 'symbol', 'string'):
                 self.step(lambda: getattr(item, name, None))
             repr(item)
             if hasattr(item, 'number'):
@@ -64,7 +64,7 @@ class Reader:
         if hasattr(table, 'names'):
             # (an item has the name that is at its offset, though names are read many at once)
             names = [self.step(lambda: item.name) for item in table]
-            assert names == [self.step(lambda: table.strings.get(item[2 if table.one == 'section' else 0])) for item in table]
+            assert names == [self.step(lambda: table.strtab.get(getattr(item, table.record.fields[0]))) for item in table]
         if len(table):
             assert table[-1] == list(table)[-1] and len(list(reversed(table))) == len(table)
 
@@ -108,10 +108,11 @@ class Fuzz(unittest.TestCase):
         chance = random.Random(3)
         widths = [64] * 3 + [32] * 2 + [16] * 8 + [8] * 5
         for _ in range(COUNT // 3):
-            header = Header(*(chance.choice((0, 1, 2, 64, (1 << bits) - 1, chance.getrandbits(bits))) & (1 << bits) - 1 for bits in widths))
+            values = (chance.choice((0, 1, 2, 64, (1 << bits) - 1, chance.getrandbits(bits))) & (1 << bits) - 1 for bits in widths)
+            header = Header(**dict(zip(Elf(made.ALL[0].bytes).header.as_dict(), values)))
             Reader(chance, Elf(chance.choice(made.ALL).bytes, header)).all()
         for error, number in ((ValueError, -1), (ValueError, 1 << 64), (TypeError, 'text')):
-            self.assertRaises(error, Elf, made.ALL[0].bytes, header._replace(e_shoff=number))
+            self.assertRaises(error, Elf, made.ALL[0].bytes, header.replace(e_shoff=number))
 
     def test_what_is_written_stays_in_its_record(self):
         chance = random.Random(4)
@@ -119,19 +120,19 @@ class Fuzz(unittest.TestCase):
             content = self.damaged(chance)
             try:
                 elf = Elf(content)
-                section = next(section for section in elf.sections if section.sh_type in (2, 4, 9))
-                table = chance.choice((lambda: elf.sections, lambda: elf.segments,
-                                       lambda: section.symbols if section.sh_type == 2 else section.relocations))()
+                section = next(section for section in elf.section_headers if section.sh_type in (2, 4, 9))
+                table = chance.choice((lambda: elf.section_headers, lambda: elf.program_headers,
+                                       lambda: section.symtab if section.sh_type == 2 else section.relocs))()
             except (Refused, StopIteration):
                 continue
             if not len(table):
                 continue
             index, before = chance.randrange(len(table)), bytes(content)
             item = table[index]
-            field = chance.choice(item._fields[:-2])
+            field = chance.choice(list(item.as_dict()))
             value = chance.choice((0, 1, (1 << 32) - 1, chance.getrandbits(32), chance.getrandbits(64)))
             try:
-                table[index] = item._replace(**{field: value})
+                table[index] = item.replace(**{field: value})
             except (Refused, ValueError):
                 self.assertEqual(content, before)
                 continue
@@ -156,13 +157,6 @@ class Fuzz(unittest.TestCase):
 
         for file in made.ALL:
             elf = Elf(file.bytes)
-            threads = [threading.Thread(target=read, args=(seed, elf)) for seed in range(8)]
-            for thread in threads:
-                thread.start()
-            for thread in threads:
+            for thread in started(lambda seed: read(seed, elf), range(8)):
                 thread.join()
         self.assertEqual(wrong, [])
-
-
-if __name__ == '__main__':
-    unittest.main()

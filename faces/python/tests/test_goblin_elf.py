@@ -1,5 +1,6 @@
 """Tests of goblin_elf over made files, whose values are those that the System V gABI gives their bytes, and over a stored program."""
 import base64
+import contextlib
 import copy
 import ctypes
 import gc
@@ -14,7 +15,6 @@ import signal
 import subprocess
 import sys
 import tempfile
-import threading
 import tracemalloc
 import typing
 import unittest
@@ -28,7 +28,7 @@ from goblin_elf import __main__ as program
 from goblin_elf import _library, constants
 
 import made
-from parts import limit_memory
+from parts import limit_memory, started
 
 try:
     import numpy
@@ -40,17 +40,29 @@ FOLDER = os.path.dirname(os.path.abspath(__file__))
 MADE = made.ALL[2]
 
 
-def refusal(function, *arguments):
-    """Returns the refusal that a call raises."""
+def refusal(function, *arguments, **expected):
+    """Returns the refusal that a call raises, of which some fields are as expected. `text` is its text."""
     try:
         function(*arguments)
     except Refused as error:
+        found = {name: str(error) if name == 'text' else getattr(error, name) for name in expected}
+        if found != expected:
+            raise AssertionError(f'{found} is not {expected}') from None
         return error
     raise AssertionError('it is not refused')
 
 
+@contextlib.contextmanager
+def in_file(content):
+    """Yields a file on the disk that has some bytes."""
+    with tempfile.NamedTemporaryFile() as file:
+        file.write(content)
+        file.flush()
+        yield file
+
+
 class Read(unittest.TestCase):
-    """Each kind of item of the made files, of both classes and byte orders."""
+    """Each kind of item of the made files, of both classes and byte orders. (That each field is what pyelftools reads is in test_stored.py.)"""
 
     def each(self):
         return [(file, Elf(file.bytes)) for file in made.ALL]
@@ -58,89 +70,76 @@ class Read(unittest.TestCase):
     def test_header(self):
         for file, elf in self.each():
             header = elf.header
-            self.assertEqual((header.e_entry, header.e_phoff, header.e_shoff, header.e_machine), (0x1004, file.phoff, file.shoff, 62))
-            self.assertEqual((header.e_phnum, header.e_shnum, header.e_shstrndx, header.ei_osabi), (2, 9, 8, 3))
-            self.assertEqual((elf.is_64, elf.little_endian), (file.bits == 64, file.order == '<'))
+            self.assertEqual((header.ei_osabi, elf.is_64, elf.little_endian), (3, file.bits == 64, file.order == '<'))
             self.assertEqual(repr(elf), f'<Elf: ELF{file.bits} REL X86_64, {len(file.bytes)} bytes>')
             self.assertEqual(bytes(elf.bytes), file.bytes)
             # (what is read would still be that of the file)
             with self.assertRaises(AttributeError):
-                elf.header = header._replace(e_shnum=0)
-            self.assertEqual((elf.header, len(elf.sections)), (header, 9))
+                elf.header = header.replace(e_shnum=0)
+            self.assertEqual((elf.header, len(elf.section_headers)), (header, 9))
 
     def test_sections(self):
         for file, elf in self.each():
-            self.assertEqual([section.name for section in elf.sections], list(made.NAMES))
-            self.assertEqual(elf.sections.names(), list(made.NAMES))
-            text = elf.section('.text')
-            self.assertEqual((text.index, text.sh_type, text.sh_flags, text.sh_addr, text.sh_addralign),
-                             (1, SHT_PROGBITS, SHF_ALLOC | SHF_EXECINSTR, 0x1000, 16))
-            self.assertEqual((text.sh_offset, text.sh_size), file.offsets['.text'])
-            self.assertEqual((bytes(text.bytes), goblin_elf.sht_to_str(text.sh_type)), (made.TEXT, 'SHT_PROGBITS'))
-            symbols = elf.section(b'.symtab')
-            self.assertEqual((symbols.index, symbols.sh_link, symbols.sh_info, symbols.linked.name), (2, 3, 3, '.strtab'))
-            self.assertEqual(symbols.sh_entsize, file.size(made.SYM))
-            zeros = elf.sections[-2]
-            self.assertEqual((zeros.name, len(zeros.bytes), zeros.sh_size, zeros.linked), ('.bss', 0, 0x100, None))
-            self.assertEqual((len(zeros.notes), zeros.strings.get(0), refusal(zeros.number, 0, 1).kind), (0, None, Kind.BAD_OFFSET))
-            self.assertIsNone(elf.section('.debug'))
-            self.assertIsNone(elf.section('.text', 2))
-            self.assertEqual(elf.section_by_type(SHT_SYMTAB).name, '.symtab')
-            self.assertEqual([elf.section_by_type(3, first).index for first in (0, 3, 4, 8)], [3, 3, 8, 8])
-            self.assertIsNone(elf.section_by_type(3, 9))
+            self.assertEqual([[section.name for section in elf.section_headers], elf.section_headers.names()], [list(made.NAMES)] * 2)
+            text, symbols, zeros = elf.section_by_name('.text'), elf.section_by_name(b'.symtab'), elf.section_headers[-2]
+            self.assertEqual((text, text.index, bytes(text.data), goblin_elf.sht_to_str(text.sh_type)),
+                             (elf.section_headers[1], 1, made.TEXT, 'SHT_PROGBITS'))
+            self.assertEqual((symbols.index, symbols.linked_section.name), (2, '.strtab'))
+            self.assertEqual((zeros.name, len(zeros.data), zeros.sh_size, zeros.linked_section), ('.bss', 0, 0x100, None))
+            self.assertEqual((len(zeros.notes), zeros.strtab.get(0), refusal(zeros.number, 0, 1).kind), (0, None, Kind.BAD_OFFSET))
+            self.assertEqual((elf.section_by_name('.debug'), elf.section_by_name('.text', 2), elf.section_by_type(3, 9)), (None, None, None))
+            self.assertEqual([elf.section_by_type(*given).index for given in ((SHT_SYMTAB,), (3, 0), (3, 3), (3, 4), (3, 8))], [2, 3, 3, 8, 8])
 
     def test_segments(self):
         for file, elf in self.each():
-            load, note = elf.segments
-            self.assertEqual((load.p_type, load.p_flags, load.p_vaddr, load.p_paddr, load.p_memsz, load.p_align),
-                             (1, 5, 0x1000, 0x1000, 0x100, 4))
-            self.assertEqual(((load.p_offset, load.p_filesz), goblin_elf.pt_to_str(note.p_type)), (file.offsets['.text'], 'PT_NOTE'))
-            self.assertEqual((bytes(load.bytes), load.p_flags & PF_X), (made.TEXT, 1))
-            self.assertEqual((elf.offset_of(0x1010), elf.offset_of(0xfff)), (load.p_offset + 16, None))
+            load, note = elf.program_headers
+            self.assertEqual((load.p_offset, goblin_elf.pt_to_str(note.p_type)), (file.offsets['.text'][0], 'PT_NOTE'))
+            self.assertEqual((bytes(load.data), load.p_flags & PF_X), (made.TEXT, 1))
+            self.assertEqual((elf.address_to_offset(0x1010), elf.address_to_offset(0xfff)), (load.p_offset + 16, None))
 
     def test_symbols(self):
         for _, elf in self.each():
-            found = [(s.name, s.st_value, s.st_size, s.st_shndx, s.binding, s.type, s.visibility) for s in elf.symbols]
-            self.assertEqual(found, list(made.SYMBOLS))
-            self.assertEqual(elf.symbols.names(), [symbol[0] for symbol in made.SYMBOLS])
-            main = elf.symbols.find('main')
-            self.assertEqual((main.index, main.type, main.binding), (1, STT_FUNC, goblin_elf.STB_GLOBAL))
-            self.assertEqual((elf.symbols[3].visibility, elf.symbols.find('été').index), (goblin_elf.STV_HIDDEN, 5))
-            self.assertEqual((elf.symbols.find('main', 1), elf.symbols.find('main', 2)), (main, None))
-            self.assertIsNone(elf.symbols.find('absent'))
-            self.assertEqual(elf.section('.strtab').strings.get(main.st_name), 'main')
-            self.assertEqual(elf.section('.strtab').strings.get_bytes(main.st_name + 1), b'ain')
-            self.assertEqual((len(elf.dynamic_symbols), elf.dynamic_symbols.find('main')), (0, None))
+            names = [symbol[0] for symbol in made.SYMBOLS]
+            self.assertEqual(([symbol.name for symbol in elf.syms], elf.syms.names()), (names, names))
+            main, strings = elf.syms.symbol_by_name('main'), elf.section_by_name('.strtab').strtab
+            self.assertEqual((main.index, main.st_type, main.st_bind), (1, STT_FUNC, goblin_elf.STB_GLOBAL))
+            self.assertEqual((elf.syms[3].st_visibility, elf.syms.symbol_by_name('été').index), (goblin_elf.STV_HIDDEN, 5))
+            found = [elf.syms.symbol_by_name(*given) for given in (('main', 1), ('main', 2), ('absent',))]
+            self.assertEqual(found, [main, None, None])
+            self.assertEqual((strings.get(main.st_name), strings.get_bytes(main.st_name + 1)), ('main', b'ain'))
+            self.assertEqual((len(elf.dynsyms), elf.dynsyms.symbol_by_name('main')), (0, None))
 
     def test_symbol_of_an_address(self):
         # the address, and the symbol that contains it: after inner it is outer, which goes on, and after main the label
         for address, name in [(0x1003, None), (0x1004, 'main'), (0x100b, 'main'), (0x100c, None), (0x1010, 'label'), (0x101f, 'label'),
                               (0x1020, 'outer'), (0x1028, 'inner'), (0x102c, 'outer'), (0x1040, None), (0x400f, 'été'), (0x4010, None)]:
             for _, elf in self.each():
-                found = Elf(elf.bytes, elf.header._replace(e_type=goblin_elf.ET_DYN)).symbol_at(address)
-                self.assertEqual(found and found.name, name, hex(address))
+                loaded = Elf(elf.bytes, elf.header.replace(e_type=goblin_elf.ET_DYN))
+                found = [symbol and symbol.name for symbol in (loaded.symbol_by_address(address), elf.symbol_by_address(address))]
                 # (the file itself is relocatable, so the label would be at an offset of 0x1010, which is past its section)
-                of_object = elf.symbol_at(address)
-                self.assertEqual(of_object and of_object.name, None if name == 'label' else name, hex(address))
+                self.assertEqual(found, [name, None if name == 'label' else name], hex(address))
 
     def test_relocations(self):
         for _, elf in self.each():
             for name, has in [('.rela.text', True), ('.rel.text', False)]:
-                table = elf.section(name).relocations
+                table = elf.section_by_name(name).relocs
                 expected = [(offset, symbol, addend if has else None, kind) for offset, symbol, kind, addend in made.RELOCATIONS]
-                self.assertEqual([relocation[:4] for relocation in table], expected)
-                self.assertEqual([table[index][:4] for index in range(2)], expected)
+                for relocations in (list(table), [table[0], table[1]]):
+                    self.assertEqual([tuple(relocation.as_dict().values()) for relocation in relocations], expected)
                 self.assertEqual([relocation.symbol.name for relocation in table], ['main', 'outer'])
 
     def test_notes(self):
         for _, elf in self.each():
-            for notes in (elf.notes, elf.section('.note.gnu.build-id').notes, elf.segments[1].notes):
-                self.assertEqual([(note.n_type, note.name, bytes(note.desc)) for note in notes], [(3, 'GNU', made.BUILD_ID)])
+            for notes in (elf.notes, elf.section_by_name('.note.gnu.build-id').notes, elf.program_headers[1].notes):
+                self.assertEqual(self.words(notes), [(3, 'GNU', made.BUILD_ID)])
             self.assertEqual((elf.build_id, elf.build_id.hex()), (made.BUILD_ID, made.BUILD_ID.hex()))
             # (it may be in a section alone, though there is a segment of notes)
             changed = Elf(bytearray(elf.bytes))
-            changed.segments[1] = changed.segments[1]._replace(p_filesz=0)
+            changed.program_headers[1] = changed.program_headers[1].replace(p_filesz=0)
             self.assertEqual((list(changed.notes), changed.build_id), ([], made.BUILD_ID))
+
+    def words(self, notes):
+        return [(note.n_type, note.name, bytes(note.desc)) for note in notes]
 
     def test_notes_of_any_names(self):
         """Those of annobin and of Go's linker: readelf -n names the owners GA*FORTIFY:0xff, \\xff, Go and GNU."""
@@ -154,32 +153,29 @@ class Read(unittest.TestCase):
                 places.append((len(content) - len(notes), len(notes)))
             changed = Elf(content)
             for index, (offset, size) in zip((4, 5), places):
-                changed.sections[index] = changed.sections[index]._replace(sh_type=7, sh_offset=offset, sh_size=size, sh_addralign=4)
-            changed.segments[1] = changed.segments[1]._replace(p_offset=places[1][0], p_filesz=places[1][1])
-            words = lambda notes: [(note.n_type, note.name, bytes(note.desc)) for note in notes]
+                changed.section_headers[index] = changed.section_headers[index].replace(sh_type=7, sh_offset=offset, sh_size=size, sh_addralign=4)
+            changed.program_headers[1] = changed.program_headers[1].replace(p_offset=places[1][0], p_filesz=places[1][1])
             any_names, of_go = [(0x100, 'GA*FORTIFY\0\udcff', b'at'), (3, '\udcff', b'')], [(4, 'Go', b'of Go')]
-            self.assertEqual(words(changed.sections[4].notes), any_names)
-            self.assertEqual(changed.sections[4].notes[0].name.encode('utf-8', 'surrogateescape'), b'GA*FORTIFY\0\xff')
-            for notes in (changed.notes, changed.segments[1].notes, changed.sections[5].notes):
-                self.assertEqual(words(notes), of_go)
+            self.assertEqual(self.words(changed.section_headers[4].notes), any_names)
+            self.assertEqual(changed.section_headers[4].notes[0].name.encode('utf-8', 'surrogateescape'), b'GA*FORTIFY\0\xff')
+            for notes in (changed.notes, changed.program_headers[1].notes, changed.section_headers[5].notes):
+                self.assertEqual(self.words(notes), of_go)
             self.assertEqual(changed.build_id, made.BUILD_ID)
-            changed.segments[1] = changed.segments[1]._replace(p_type=1)
-            self.assertEqual(words(changed.notes), [*any_names, *of_go, (3, 'GNU', made.BUILD_ID)])
+            changed.program_headers[1] = changed.program_headers[1].replace(p_type=1)
+            self.assertEqual(self.words(changed.notes), [*any_names, *of_go, (3, 'GNU', made.BUILD_ID)])
             # (a name or descriptor past the end of its section is damage, whatever the name)
             for at, kind in ((0, Kind.TOO_BIG), (4, Kind.BAD_OFFSET)):
                 damaged = Elf(bytearray(content))
                 damaged.put_number(places[0][0] + len(first) + at, 4, 64)
-                for read in (lambda: damaged.sections[4].notes, lambda: list(damaged.notes)):
+                for read in (lambda: damaged.section_headers[4].notes, lambda: list(damaged.notes)):
                     self.assertEqual(refusal(read).kind, kind)
 
     def test_numbers(self):
         for file, elf in self.each():
-            size = file.bits // 8
-            self.assertEqual((elf.number(18, 2), elf.number(24, size), elf.number(4, 1)), (62, 0x1004, file.bits // 32))
-            expected = 0x13121110 if file.order == '<' else 0x10111213
-            self.assertEqual((elf.section('.text').number(16, 4), elf.segments[0].number(16, 4)), (expected, expected))
-            self.assertEqual(refusal(elf.section('.text').number, 126, 4).kind, Kind.TOO_BIG)
-            self.assertEqual(refusal(elf.number, len(file.bytes), 1).kind, Kind.BAD_OFFSET)
+            text, expected = elf.section_by_name('.text'), 0x13121110 if file.order == '<' else 0x10111213
+            self.assertEqual((elf.number(18, 2), elf.number(24, file.bits // 8), elf.number(4, 1)), (62, 0x1004, file.bits // 32))
+            self.assertEqual((text.number(16, 4), elf.program_headers[0].number(16, 4)), (expected, expected))
+            self.assertEqual((refusal(text.number, 126, 4).kind, refusal(elf.number, len(file.bytes), 1).kind), (Kind.TOO_BIG, Kind.BAD_OFFSET))
             for width in (0, 3, 16):
                 self.assertRaises(ValueError, elf.number, 0, width)
 
@@ -187,8 +183,8 @@ class Read(unittest.TestCase):
 class Sequences(unittest.TestCase):
     def test_indices_and_slices(self):
         elf = Elf(MADE.bytes)
-        for table, count in [(elf.sections, 9), (elf.segments, 2), (elf.symbols, 7), (elf.section('.rela.text').relocations, 2),
-                             (elf.section('.note.gnu.build-id').notes, 1)]:
+        for table, count in [(elf.section_headers, 9), (elf.program_headers, 2), (elf.syms, 7), (elf.section_by_name('.rela.text').relocs, 2),
+                             (elf.section_by_name('.note.gnu.build-id').notes, 1)]:
             items = list(table)
             self.assertEqual((len(table), len(items)), (count, count))
             self.assertEqual([table[index] for index in range(-count, count)], items * 2)
@@ -200,46 +196,59 @@ class Sequences(unittest.TestCase):
             self.assertIn(items[0], table)
             self.assertEqual((table.index(items[-1]), table.count(items[0])), (count - 1, 1))
             self.assertRegex(repr(table), rf'{count} items')
-            self.assertIs(typing.get_type_hints(type(items[0])).get('table', Notes), type(table))
+            if not isinstance(table, Notes):
+                self.assertIs(typing.get_type_hints(type(items[0])._public.table.fget)['return'], type(table))
 
     def test_items(self):
         elf, again = Elf(MADE.bytes), Elf(bytearray(MADE.bytes))
-        for item, same in [(elf.sections[1], again.sections[1]), (elf.symbols[1], again.symbols[1]), (elf.segments[0], again.segments[0])]:
+        for table in (lambda of: of.section_headers, lambda of: of.syms, lambda of: of.program_headers):
+            item, same = table(elf)[1], table(again)[1]
             self.assertEqual((item, hash(item)), (same, hash(same)))
             self.assertFalse(item != same)
-            self.assertRaises(AttributeError, setattr, item, item._fields[0], 1)
-        self.assertNotEqual(elf.symbols[1], elf.symbols[2])
-        self.assertNotEqual(elf.symbols[1], elf.symbols[1]._replace(st_other=1))
-        self.assertFalse(elf.segments[0] == elf.sections[1])
+            for one in (item, item.replace(index=0)):
+                self.assertRaises(AttributeError, setattr, one, list(item.as_dict())[0], 1)
+                self.assertRaises(AttributeError, delattr, one, 'index')
+            # (they are no sequences, and what is changed has the same type)
+            for one in (item, item.replace(index=7)):
+                self.assertNotIsInstance(one, tuple)
+                self.assertEqual((one, type(one).__name__), (same, type(item).__name__))
+                for use in (lambda: one[2], lambda: list(one), lambda: len(one), lambda: one.replace(other=1)):
+                    self.assertRaises(TypeError, use)
+            self.assertEqual([name for name in ('index', 'count') if callable(getattr(item, name, None))], [])
+            self.assertRaises(TypeError, type(item), **item.as_dict())
+        self.assertNotEqual(elf.syms[1], elf.syms[2])
+        self.assertNotEqual(elf.syms[1], elf.syms[1].replace(st_other=1))
+        self.assertFalse(elf.program_headers[0] == elf.section_headers[1])
         # (their order is that of the fields, too, also of items of two tables)
-        first, second = sorted((elf.symbols[1], again.symbols[2]), key=lambda symbol: symbol[:-2])
+        first, second = sorted((elf.syms[1], again.syms[2]), key=lambda symbol: list(symbol.as_dict().values()))
         self.assertEqual((first < second, first <= second, first > second, first >= second), (True, True, False, False))
-        self.assertEqual((first < first, first <= again.symbols[first.index], first >= again.symbols[first.index]), (False, True, True))
-        self.assertEqual(sorted([*elf.symbols, *again.symbols])[:2], [elf.symbols[0], again.symbols[0]])
-        self.assertRaises(TypeError, lambda: elf.segments[0] < elf.sections[1])
+        self.assertEqual((first < first, first <= again.syms[first.index], first >= again.syms[first.index]), (False, True, True))
+        self.assertEqual(sorted([*elf.syms, *again.syms])[:2], [elf.syms[0], again.syms[0]])
+        self.assertRaises(TypeError, lambda: elf.program_headers[0] < elf.section_headers[1])
         # (that has an addend or none, and whose descriptor is in bytes that can be written)
-        relocations = [*again.section('.rela.text').relocations, *elf.section('.rel.text').relocations]
+        relocations = [*again.section_by_name('.rela.text').relocs, *elf.section_by_name('.rel.text').relocs]
         self.assertEqual([relocation.r_addend for relocation in sorted(relocations)], [None, -4, None, 0x7ffffff0])
         note, other = *elf.notes, *again.notes
         self.assertEqual((note, hash(note), {note}), (other, hash(other), {other}))
-        less = other._replace(desc=memoryview(b'\0'))
-        self.assertEqual((sorted([note, less]), max(less, other), note >= other, note == tuple(note)), ([less, note], other, True, True))
-        self.assertIn("name='main', st_name=1, st_value=0x1004, st_size=8, st_shndx=1, st_info=0x12", repr(elf.symbols[1]))
-        self.assertIn("r_offset=0x10, r_sym=1, r_addend=-4, r_type=2, index=0", repr(elf.section('.rela.text').relocations[0]))
+        less = other.replace(desc=memoryview(b'\0'))
+        self.assertEqual((sorted([note, less]), max(less, other), note >= other, note == (3, 'GNU', note.desc)), ([less, note], other, True, False))
+        self.assertIn("name='main', st_name=1, st_value=0x1004, st_size=8, st_shndx=1, st_info=0x12", repr(elf.syms[1]))
+        self.assertIn("r_offset=0x10, r_sym=1, r_addend=-4, r_type=2, index=0", repr(elf.section_by_name('.rela.text').relocs[0]))
         self.assertIn('e_machine=0x3e', repr(elf.header))
         for value in (-1, 'text', 1.5, [], None):
-            self.assertIn(f'Symbol(st_name={value}, st_value=0x1004, ', repr(elf.symbols[1]._replace(st_name=value)))
+            self.assertIn(f'Symbol(st_name={value}, st_value=0x1004, ', repr(elf.syms[1].replace(st_name=value)))
 
     def test_pickled_items(self):
         elf = Elf(MADE.bytes)
-        header, note = pickle.loads(pickle.dumps((elf.header, elf.segments[1].notes[0])))
-        self.assertEqual((header, type(header), note.n_type, note.name, note.desc.hex()),
-                         (elf.header, type(elf.header), 3, 'GNU', made.BUILD_ID.hex()))
-        for table in (elf.sections, elf.segments, elf.symbols, elf.section('.rela.text').relocations):
-            for what in (elf, table, table[1], table[0], elf.section('.strtab').strings, Notes(elf, *elf.segments[1][:2], 4)):
+        header, note = pickle.loads(pickle.dumps((elf.header, elf.program_headers[1].notes[0])))
+        self.assertEqual((header, isinstance(header, goblin_elf.Header), note.n_type, note.name, note.desc.hex()),
+                         (elf.header, True, 3, 'GNU', made.BUILD_ID.hex()))
+        self.assertEqual(goblin_elf.Header(**header.as_dict()), header)
+        for table in (elf.section_headers, elf.program_headers, elf.syms, elf.section_by_name('.rela.text').relocs):
+            for what in (elf, table, table[1], table[0], elf.section_by_name('.strtab').strtab, Notes(elf, *elf.program_headers[1]._place, 4)):
                 self.assertRaisesRegex(TypeError, '^a file, its tables and their items can not be pickled: ', pickle.dumps, what)
             self.assertEqual(copy.copy(table[1]), table[1])
-            self.assertEqual(pickle.loads(pickle.dumps(table[1][:-2])), table[1][:-2])
+            self.assertEqual(pickle.loads(pickle.dumps(table[1].as_dict())), table[1].as_dict())
 
     def test_many_items(self):
         # more symbols than one call reads: each has its index as its value
@@ -270,11 +279,10 @@ class Refusals(unittest.TestCase):
 
     def test_of_lists(self):
         cut = Elf(MADE.bytes[:-1])
-        for read in (lambda: cut.sections, lambda: cut.symbols, lambda: cut.section('.text')):
-            error = refusal(read)
-            self.assertEqual((error.kind, error.numbers, error.offset), (Kind.TOO_BIG, (64, 63), cut.header.e_shoff))
-        many = Elf(MADE.bytes, Elf(MADE.bytes).header._replace(e_shnum=60000))
-        error = refusal(lambda: many.sections)
+        for read in (lambda: cut.section_headers, lambda: cut.syms, lambda: cut.section_by_name('.text')):
+            refusal(read, kind=Kind.TOO_BIG, numbers=(64, 63), offset=cut.header.e_shoff)
+        many = Elf(MADE.bytes, Elf(MADE.bytes).header.replace(e_shnum=60000))
+        error = refusal(lambda: many.section_headers)
         self.assertEqual((error.kind, error.item, error.numbers), (Kind.BUFFER_TOO_SHORT, Item.SECTION_HEADERS, (60000,)))
         self.assertEqual(str(error), 'Buffer is too short for 60000 section headers')
         self.assertEqual(refusal(lambda: Symbols(cut, len(MADE.bytes), 24)).kind, Kind.SYMTAB_OFFSET)
@@ -282,19 +290,17 @@ class Refusals(unittest.TestCase):
 
     def test_of_types_and_strings(self):
         elf = Elf(MADE.bytes)
-        for expected in ('symbols', 'relocations'):
-            error = refusal(getattr, elf.section('.text'), expected)
+        for name, expected in (('symtab', 'symbols'), ('relocs', 'relocations')):
+            error = refusal(getattr, elf.section_by_name('.text'), name)
             self.assertEqual((error.kind, error.numbers, str(error)),
                              (Kind.SECTION_TYPE, (1,), f'A section of type 0x1 (SHT_PROGBITS) holds no {expected}'))
         self.assertEqual(refusal(Strings(elf, 1 << 40, 1).get, 0).kind, Kind.STRTAB_OFFSET)
         self.assertEqual(refusal(Strings(elf, 64, 1 << 40).get, 0).kind, Kind.STRTAB_RANGE)
         odd = Strings(Elf(MADE.bytes + b'caf\xe9\0'), len(MADE.bytes), 5)
-        error = refusal(odd.get, 0)
-        self.assertEqual((error.kind, error.item, error.offset), (Kind.BAD_INPUT, Item.INVALID_UTF8, len(MADE.bytes)))
+        refusal(odd.get, 0, kind=Kind.BAD_INPUT, item=Item.INVALID_UTF8, offset=len(MADE.bytes))
         self.assertEqual((odd.get_bytes(0), odd.get(0, 'replace'), odd.get(0, 'surrogateescape')), (b'caf\xe9', 'caf\ufffd', 'caf\udce9'))
         self.assertEqual((odd.get(1, 'ignore'), odd.get(5), odd.get_all([4, 5, 9])), ('af', None, ['', None, None]))
-        error = refusal(odd.get_all, [4, 0])
-        self.assertEqual((error.kind, error.offset), (Kind.BAD_INPUT, len(MADE.bytes)))
+        refusal(odd.get_all, [4, 0], kind=Kind.BAD_INPUT, offset=len(MADE.bytes))
         self.assertEqual(odd.get_all([4, 0, 5, 2], 'surrogateescape'), ['', 'caf\udce9', None, 'f\udce9'])
         self.assertEqual(refusal(Strings(elf, 64, 1 << 40).get_all, [0], 'replace').kind, Kind.STRTAB_RANGE)
         for read in (odd.get_all, lambda offsets, errors: odd.get(offsets[1], errors)):
@@ -316,13 +322,13 @@ class Refusals(unittest.TestCase):
         self.assertFalse(names.starts_at(0, 'af') or names.starts_at(5, 'ends') or names.starts_at(8, '') or names.starts_at(4, '\0'))
         self.assertTrue(names.is_at(0, bytearray(b'caf\xe9')) and names.starts_at(0, memoryview(b'caf')))
         self.assertRaises(TypeError, names.is_at, 0, 1)
-        self.assertEqual([names.get_closed(offset) for offset in (0, 4, 5, 8)], [b'caf\xe9', b'', None, None])
+        self.assertEqual([names.get_closed_bytes(offset) for offset in (0, 4, 5, 8)], [b'caf\xe9', b'', None, None])
         self.assertEqual((names.closed.offset, names.closed.size, names.closed.closed.size), (len(MADE.bytes), 5, 5))
         self.assertEqual(Strings(Elf(MADE.bytes + b'end'), len(MADE.bytes), 3).closed.size, 0)
         starts = [names.get_start(*given) for given in ((0, 2), (0, 4), (0, 9), (4, 1), (5, 9), (5, 0), (8, 1))]
         self.assertEqual(starts, [b'ca', b'caf\xe9', b'caf\xe9', b'', b'end', b'', None])
         past = Strings(Elf(MADE.bytes), 64, 1 << 40)
-        for read in (Strings.get_closed, lambda table, offset: table.is_at(offset, 'a'), lambda table, offset: table.starts_at(offset, ''),
+        for read in (Strings.get_closed_bytes, lambda table, offset: table.is_at(offset, 'a'), lambda table, offset: table.starts_at(offset, ''),
                      lambda table, offset: table.get_start(offset, 1)):
             self.assertEqual(refusal(read, past, 0).kind, Kind.STRTAB_RANGE)
             self.assertRaises(ValueError, read, names, -1)
@@ -334,17 +340,16 @@ class Refusals(unittest.TestCase):
             at = MADE.bytes.index(old, names[0])
             changed[at:at + len(old)] = new
         elf = Elf(changed)
-        self.assertEqual((elf.symbols.find('main'), elf.section('.text')), (None, None))
+        self.assertEqual((elf.syms.symbol_by_name('main'), elf.section_by_name('.text')), (None, None))
         for name in (b'caf\xe9', 'caf\udce9'):
-            self.assertEqual(elf.symbols.find(name).index, Elf(MADE.bytes).symbols.find('main').index)
-        self.assertEqual(elf.section(b'.te\xffx').index, Elf(MADE.bytes).section('.text').index)
+            self.assertEqual(elf.syms.symbol_by_name(name).index, Elf(MADE.bytes).syms.symbol_by_name('main').index)
+        self.assertEqual(elf.section_by_name(b'.te\xffx').index, Elf(MADE.bytes).section_by_name('.text').index)
 
     def test_of_notes(self):
         offset, size = MADE.offsets['.note.gnu.build-id']
         changed = bytearray(MADE.bytes)
         changed[offset + 4:offset + 8] = b'\xff\xff\xff\x7f'
-        error = refusal(lambda: Elf(changed).section('.note.gnu.build-id').notes)
-        self.assertEqual((error.kind, error.offset), (Kind.TOO_BIG, offset))
+        refusal(lambda: Elf(changed).section_by_name('.note.gnu.build-id').notes, kind=Kind.TOO_BIG, offset=offset)
         self.assertEqual(refusal(lambda: Elf(changed).build_id).kind, Kind.TOO_BIG)
 
     def test_of_names_of_notes(self):
@@ -352,12 +357,10 @@ class Refusals(unittest.TestCase):
         changed = bytearray(MADE.bytes)
         changed[offset + 12:offset + 15] = b'\xe9N\0'
         elf = Elf(changed)
-        error = refusal(Notes, elf, offset, size, 4)
-        self.assertEqual((error.kind, error.item), (Kind.BAD_INPUT, Item.INVALID_UTF8))
+        refusal(Notes, elf, offset, size, 4, kind=Kind.BAD_INPUT, item=Item.INVALID_UTF8)
         self.assertEqual([note.name for note in Notes(elf, offset, size, 4, 'surrogateescape')], ['\udce9N'])
         self.assertEqual(refusal(list, Notes(elf, offset, size, 4, 'surrogatepass')).item, Item.INVALID_UTF8)
-        error = refusal(Notes, elf, offset, size - 1, 4, 'replace')
-        self.assertEqual((error.kind, error.item, error.offset), (Kind.TOO_BIG, Item.NOTE_DESC, offset))
+        refusal(Notes, elf, offset, size - 1, 4, 'replace', kind=Kind.TOO_BIG, item=Item.NOTE_DESC, offset=offset)
         changed[offset + 12:offset + 15] = b'n\xc3\xa9'
         self.assertEqual([note.name for note in Notes(Elf(changed), offset, size, 4)], ['n\xe9'])
         # (names whose last byte is not zero, and one without bytes)
@@ -389,9 +392,8 @@ class Cut(unittest.TestCase):
             for length, count in [(0, 9), (1, 8), (size, 8), (size + 1, 7), (8 * size, 1), (9 * size, 0)]:
                 cut = Elf(file.bytes[:len(file.bytes) - length])
                 whole = cut.whole()
-                self.assertEqual([section[:10] for section in whole.sections],
-                                 [section[:10] for section in Elf(file.bytes).sections[:count]])
-                self.assertEqual(len(whole.segments), 2)
+                self.assertEqual(list(whole.section_headers), Elf(file.bytes).section_headers[:count])
+                self.assertEqual(len(whole.program_headers), 2)
                 if count == 9:
                     self.assertEqual(whole.header, cut.header)
 
@@ -399,12 +401,12 @@ class Cut(unittest.TestCase):
         offset = MADE.offsets['.text'][0]
         elf = Elf(MADE.bytes)
         cut = Elf(MADE.bytes[:offset + 20], elf.header)
-        for item in (elf.section('.text'), elf.segments[0]):
-            part = type(item)(*item[:-1], type(item.table).__new__(type(item.table)))
+        for item in (elf.section_by_name('.text'), elf.program_headers[0]):
+            part = item.replace(table=copy.copy(item.table))
             part.table.elf = cut
-            self.assertEqual(bytes(part.bytes_in_file), made.TEXT[:20])
-            self.assertEqual(refusal(lambda: part.bytes).kind, Kind.TOO_BIG)
-            self.assertEqual(bytes(item.bytes_in_file), made.TEXT)
+            self.assertEqual(bytes(part.readable_data), made.TEXT[:20])
+            self.assertEqual(refusal(lambda: part.data).kind, Kind.TOO_BIG)
+            self.assertEqual(bytes(item.readable_data), made.TEXT)
 
 
 class Names(unittest.TestCase):
@@ -434,7 +436,7 @@ class Names(unittest.TestCase):
         except UnicodeDecodeError:
             error = refusal(lambda: item.name)
             self.assertEqual((error.kind, error.item), (Kind.BAD_INPUT, Item.INVALID_UTF8))
-            self.assertEqual(error.offset, int.from_bytes(item.table.strings._range[:8], sys.byteorder) + item.st_name)
+            self.assertEqual(error.offset, int.from_bytes(item.table.strtab._range[:8], sys.byteorder) + item.st_name)
         else:
             self.assertEqual(item.name, wanted)
 
@@ -446,10 +448,10 @@ class Names(unittest.TestCase):
             for order in (table, items, reversed(table), items[::3], items[::100], chance.sample(items, count), [table[-1], table[0]]):
                 for item in order:
                     self.check(item)
-            self.check(items[-1]._replace(st_name=1))
+            self.check(items[-1].replace(st_name=1))
             closed = self.table([item.st_name for item in items], self.STRINGS + b'\0')
             self.assertEqual(closed.names('replace'), [self.expected(item.st_name, 'replace', self.STRINGS + b'\0') for item in items])
-            self.assertEqual(closed.strings.get_all((item.st_name for item in items), 'replace'), closed.names('replace'))
+            self.assertEqual(closed.strtab.get_all((item.st_name for item in items), 'replace'), closed.names('replace'))
         self.assertEqual((refusal(closed.names).kind, refusal(table.names, 'replace').kind), (Kind.BAD_INPUT, Kind.OPEN_STRING))
         # (a table with a long string is read otherwise)
         for size in (1 << 14, (1 << 14) + 1):
@@ -495,36 +497,36 @@ class Written(unittest.TestCase):
     def test_items(self):
         # the table, the index, a field, its new value, and where the record is
         for file in made.ALL:
-            cases = [(lambda elf: elf.sections, 1, 'sh_flags', 7, file.shoff, made.SHDR),
-                     (lambda elf: elf.segments, 1, 'p_flags', 6, file.phoff, made.PHDR),
-                     (lambda elf: elf.symbols, 3, 'st_value', 0x2000, file.offsets['.symtab'][0], made.SYM),
-                     (lambda elf: elf.section('.rela.text').relocations, 1, 'r_addend', -8, file.offsets['.rela.text'][0], made.RELA),
-                     (lambda elf: elf.section('.rel.text').relocations, 1, 'r_sym', 4, file.offsets['.rel.text'][0], made.REL)]
+            cases = [(lambda elf: elf.section_headers, 1, 'sh_flags', 7, file.shoff, made.SHDR),
+                     (lambda elf: elf.program_headers, 1, 'p_flags', 6, file.phoff, made.PHDR),
+                     (lambda elf: elf.syms, 3, 'st_value', 0x2000, file.offsets['.symtab'][0], made.SYM),
+                     (lambda elf: elf.section_by_name('.rela.text').relocs, 1, 'r_addend', -8, file.offsets['.rela.text'][0], made.RELA),
+                     (lambda elf: elf.section_by_name('.rel.text').relocs, 1, 'r_sym', 4, file.offsets['.rel.text'][0], made.REL)]
             for table_of, index, field, value, start, form in cases:
                 changed = bytearray(file.bytes)
                 table = table_of(Elf(changed))
                 same = table[index]
                 table[index] = same
                 self.assertEqual(changed, file.bytes)
-                table[index] = same._replace(**{field: value})
+                table[index] = same.replace(**{field: value})
                 self.assertEqual(getattr(table[index], field), value)
                 self.check(file, changed, start + index * file.size(form), file.size(form))
 
     def test_what_does_not_fit(self):
         file = made.ALL[0]
         changed = bytearray(file.bytes)
-        symbols = Elf(changed).symbols
-        error = refusal(symbols.__setitem__, 1, symbols[1]._replace(st_value=1 << 32))
+        symbols = Elf(changed).syms
+        error = refusal(symbols.__setitem__, 1, symbols[1].replace(st_value=1 << 32))
         place = file.offsets['.symtab'][0] + file.size(made.SYM) + 4
         self.assertEqual((error.kind, error.numbers, error.offset), (Kind.INTEGER_FIT, (1 << 32,), place))
         for one in made.ALL:
             self.check_narrow(one)
-        relocations = Elf(changed).section('.rel.text').relocations
+        relocations = Elf(changed).section_by_name('.rel.text').relocs
         for value in (1 << 64, -1):
-            self.assertRaises(ValueError, symbols.__setitem__, 1, symbols[1]._replace(st_value=value))
+            self.assertRaises(ValueError, symbols.__setitem__, 1, symbols[1].replace(st_value=value))
         for value, name in ((5.0, 'float'), ('text', 'str'), (None, 'NoneType')):
             with self.assertRaisesRegex(TypeError, f'^st_value is a {name}, and must be an integer$'):
-                symbols[1] = symbols[1]._replace(st_value=value)
+                symbols[1] = symbols[1].replace(st_value=value)
         self.assertRaises(IndexError, symbols.__setitem__, 7, symbols[1])
         self.assertRaises(TypeError, symbols.__setitem__, 1, relocations[1])
         self.assertRaises(TypeError, symbols.__setitem__, slice(1, 2), symbols[1])
@@ -534,15 +536,15 @@ class Written(unittest.TestCase):
         """Whether numbers are refused that a file of any class has no field for, and addends that do not match their table."""
         changed = bytearray(file.bytes)
         elf, word = Elf(changed), file.bits // 8
-        rela, rel = elf.section('.rela.text').relocations, elf.section('.rel.text').relocations
+        rela, rel = elf.section_by_name('.rela.text').relocs, elf.section_by_name('.rel.text').relocs
         of_rela, of_rel, symbols = (file.offsets[name][0] for name in ('.rela.text', '.rel.text', '.symtab'))
         for table, index, field, value, place in [
-                (elf.sections, 2, 'sh_name', 0x100000003, file.shoff + 2 * file.size(made.SHDR)),
-                (elf.symbols, 1, 'st_name', 0x100000003, symbols + file.size(made.SYM)),
-                (elf.symbols, 1, 'st_shndx', 0x10003, symbols + file.size(made.SYM) + (14 if word == 4 else 6)),
+                (elf.section_headers, 2, 'sh_name', 0x100000003, file.shoff + 2 * file.size(made.SHDR)),
+                (elf.syms, 1, 'st_name', 0x100000003, symbols + file.size(made.SYM)),
+                (elf.syms, 1, 'st_shndx', 0x10003, symbols + file.size(made.SYM) + (14 if word == 4 else 6)),
                 (rela, 1, 'r_sym', 0x100000003, of_rela + 4 * word), (rela, 0, 'r_addend', None, of_rela + 2 * word),
                 (rel, 0, 'r_addend', 0, of_rel + 2 * word), (rel, 0, 'r_addend', -3, of_rel + 2 * word)]:
-            error = refusal(table.__setitem__, index, table[index]._replace(**{field: value}))
+            error = refusal(table.__setitem__, index, table[index].replace(**{field: value}))
             number = (value or 0) % (1 << 64)
             self.assertEqual((error.kind, error.numbers, error.offset), (Kind.INTEGER_FIT, (number,), place))
             self.assertEqual(error.item, Item.ADDEND if field == 'r_addend' else None)
@@ -555,19 +557,19 @@ class Written(unittest.TestCase):
             elf = Elf(changed)
             elf.put_header(elf.header)
             self.assertEqual(changed, file.bytes)
-            elf.put_header(elf.header._replace(e_entry=0x2000))
+            elf.put_header(elf.header.replace(e_entry=0x2000))
             self.assertEqual((elf.header.e_entry, Elf(changed).header.e_entry), (0x2000, 0x2000))
             self.check(file, changed, 24, file.bits // 8)
             elf.put_number(24, 4 if file.bits == 32 else 8, 0x1004)
             self.assertEqual(changed, file.bytes)
             self.assertEqual(refusal(elf.put_number, 24, 2, 1 << 16).kind, Kind.INTEGER_FIT)
-            self.assertEqual(refusal(elf.put_header, elf.header._replace(ei_class=3)).kind, Kind.INVALID_CLASS)
-            self.assertEqual(refusal(elf.put_header, elf.header._replace(ei_data=0)).kind, Kind.DATA)
+            self.assertEqual(refusal(elf.put_header, elf.header.replace(ei_class=3)).kind, Kind.INVALID_CLASS)
+            self.assertEqual(refusal(elf.put_header, elf.header.replace(ei_data=0)).kind, Kind.DATA)
             self.assertRaises(ValueError, elf.put_number, 24, 3, 1)
             for call in (elf.put_header, lambda wrong: Elf(changed, wrong)):
-                for wrong in (tuple(elf.header), 7, *([None] if call == elf.put_header else [])):
+                for wrong in (elf.header.as_dict(), 7, *([None] if call == elf.put_header else [])):
                     self.assertRaisesRegex(TypeError, f'^a header is a Header, .* and no {type(wrong).__name__}$', call, wrong)
-            text = elf.section('.text')
+            text = elf.section_by_name('.text')
             before = text.number(2, 2)
             text.put_number(2, 2, before ^ 0x1234)
             self.assertEqual(text.number(2, 2), before ^ 0x1234)
@@ -576,13 +578,13 @@ class Written(unittest.TestCase):
             self.assertEqual(refusal(text.put_number, text.sh_size, 1, 0).kind, Kind.BAD_OFFSET)
             self.assertEqual(refusal(text.put_number, 2, 2, 1 << 16).offset, text.sh_offset + 2)
             self.assertRaises(ValueError, text.put_number, 2, 3, 1)
-            self.assertEqual(refusal(elf.section('.bss').put_number, 0, 1, 0).kind, Kind.BAD_OFFSET)
+            self.assertEqual(refusal(elf.section_by_name('.bss').put_number, 0, 1, 0).kind, Kind.BAD_OFFSET)
             self.assertEqual(changed, file.bytes)
 
     def test_read_only_bytes_stay(self):
         for buffer in (MADE.bytes, memoryview(MADE.bytes), memoryview(bytearray(MADE.bytes)).toreadonly()):
             elf = Elf(buffer)
-            symbols = elf.symbols
+            symbols = elf.syms
             self.assertRaises(TypeError, symbols.__setitem__, 1, symbols[2])
             self.assertRaises(TypeError, elf.put_header, elf.header)
             self.assertRaises(TypeError, elf.put_number, 0, 1, 0)
@@ -590,13 +592,11 @@ class Written(unittest.TestCase):
         self.assertRaises(TypeError, lambda: elf.bytes.__setitem__(0, 1))
 
     def test_mapped_file(self):
-        with tempfile.NamedTemporaryFile() as file:
-            file.write(MADE.bytes)
-            file.flush()
-            symbols = Elf(mmap.mmap(file.fileno(), 0)).symbols
-            symbols[1] = symbols[1]._replace(st_size=9)
+        with in_file(MADE.bytes) as file:
+            symbols = Elf(mmap.mmap(file.fileno(), 0)).syms
+            symbols[1] = symbols[1].replace(st_size=9)
             with open(file.name, 'rb') as again:
-                self.assertEqual(Elf(again.read()).symbols[1].st_size, 9)
+                self.assertEqual(Elf(again.read()).syms[1].st_size, 9)
 
 
 class Memory(unittest.TestCase):
@@ -605,42 +605,36 @@ class Memory(unittest.TestCase):
     def test_views_hold_the_file(self):
         # (a small file is read, and the other one mapped)
         for content in (MADE.bytes, MADE.bytes.ljust(1 << 16, b'\0')):
-            with tempfile.NamedTemporaryFile() as file:
-                file.write(content)
-                file.flush()
+            with in_file(content) as file:
                 elf = Elf.open(file.name)
-                text, build_id, symbol, strings = elf.section('.text').bytes, elf.build_id, elf.symbols[1], elf.section('.strtab').strings
+                text, build_id, symbol, strings = elf.section_by_name('.text').data, elf.build_id, elf.syms[1], elf.section_by_name('.strtab').strtab
                 del elf
                 gc.collect()
             self.assertEqual((bytes(text), bytes(build_id)), (made.TEXT, made.BUILD_ID))
             self.assertEqual((symbol.name, strings.get(1)), ('main', 'main'))
 
     def test_buffers_can_not_go(self):
-        with tempfile.NamedTemporaryFile() as file:
-            file.write(MADE.bytes)
-            file.flush()
+        with in_file(MADE.bytes) as file:
             mapped = mmap.mmap(file.fileno(), 0, access=mmap.ACCESS_READ)
             elf = Elf(mapped)
             self.assertRaises(BufferError, mapped.close)
-            self.assertEqual(elf.symbols[1].name, 'main')
+            self.assertEqual(elf.syms[1].name, 'main')
             del elf
             gc.collect()
             mapped.close()
         buffer = bytearray(MADE.bytes)
         elf = Elf(buffer)
         self.assertRaises(BufferError, buffer.append, 0)
-        self.assertEqual(len(elf.sections), 9)
+        self.assertEqual(len(elf.section_headers), 9)
 
     def test_a_file_that_is_cut(self):
         # (a small file is read; the array of a mapped one has memory of its own)
         for content, copy in [(MADE.bytes, False), (MADE.bytes, True), (MADE.bytes.ljust(1 << 16, b'\0'), True)]:
-            with tempfile.NamedTemporaryFile() as file:
-                file.write(content)
-                file.flush()
+            with in_file(content) as file:
                 elf = Elf.open(file.name, copy=copy)
-                array = Elf.open(file.name).symbols.array() if numpy else None
+                array = Elf.open(file.name).syms.array() if numpy else None
                 os.truncate(file.name, 0)
-                self.assertEqual((len(elf.sections), elf.symbols[1].name), (9, 'main'))
+                self.assertEqual((len(elf.section_headers), elf.syms[1].name), (9, 'main'))
                 if numpy:
                     self.assertEqual(list(array['st_value']), [symbol[1] for symbol in made.SYMBOLS])
                 self.assertEqual(refusal(Elf.open, file.name).kind, Kind.TOO_SMALL)
@@ -654,17 +648,15 @@ class Memory(unittest.TestCase):
                 self.assertEqual(refusal(Elf.open, file.name).kind, Kind.TOO_SMALL)
 
     def test_a_mapped_file_that_is_cut_ends_the_process(self):
-        with tempfile.NamedTemporaryFile() as file:
-            file.write(MADE.bytes.ljust(1 << 16, b'\0'))
-            file.flush()
-            script = f'import os; from goblin_elf import Elf; e = Elf.open({file.name!r}); os.truncate({file.name!r}, 0); list(e.sections)'
+        with in_file(MADE.bytes.ljust(1 << 16, b'\0')) as file:
+            script = f'import os; from goblin_elf import Elf; e = Elf.open({file.name!r}); os.truncate({file.name!r}, 0); list(e.section_headers)'
             self.assertEqual(subprocess.run([sys.executable, '-c', script]).returncode, -signal.SIGBUS)
 
     def test_what_is_no_regular_file(self):
         ends = os.pipe()
         os.write(ends[1], MADE.bytes)
         os.close(ends[1])
-        self.assertEqual(Elf.open(f'/dev/fd/{ends[0]}').symbols[1].name, 'main')
+        self.assertEqual(Elf.open(f'/dev/fd/{ends[0]}').syms[1].name, 'main')
         os.close(ends[0])
         self.assertRaises(OSError, Elf.open, FOLDER)
         # (as with lief and pyelftools)
@@ -674,20 +666,17 @@ class Memory(unittest.TestCase):
 
     def test_threads(self):
         elf = Elf(MADE.bytes)
-        symbols, strings = elf.symbols, elf.section('.strtab').strings
+        symbols, strings = elf.syms, elf.section_by_name('.strtab').strtab
         expected, wrong = [symbol[0] for symbol in made.SYMBOLS], []
 
         def read():
             for _ in range(150):
                 if symbols.names() != expected or [symbol.name for symbol in symbols] != expected or strings.get(1) != 'main':
                     wrong.append(1)
-                if refusal(Elf, bytes(16)).kind != Kind.BAD_MAGIC or elf.sections[1].name != '.text':
+                if refusal(Elf, bytes(16)).kind != Kind.BAD_MAGIC or elf.section_headers[1].name != '.text':
                     wrong.append(1)
 
-        threads = [threading.Thread(target=read) for _ in range(8)]
-        for thread in threads:
-            thread.start()
-        for thread in threads:
+        for thread in started(lambda _: read(), range(8)):
             thread.join()
         self.assertEqual(wrong, [])
 
@@ -697,16 +686,16 @@ class Arrays(unittest.TestCase):
     def test_fields(self):
         for file in made.ALL:
             elf = Elf(file.bytes)
-            for table in (elf.sections, elf.segments, elf.symbols):
+            for table in (elf.section_headers, elf.program_headers, elf.syms):
                 array = table.array()
                 for field in table.record.fields:
                     self.assertEqual(array[field].tolist(), [getattr(item, field) for item in table])
-            array = elf.section('.rela.text').relocations.array()
+            array = elf.section_by_name('.rela.text').relocs.array()
             self.assertEqual(array['r_addend'].tolist(), [relocation[3] for relocation in made.RELOCATIONS])
             self.assertEqual(array.dtype.names, ('r_offset', 'r_sym', 'r_addend', 'r_type'))
-            self.assertTrue(elf.symbols.array().flags.owndata)
-            self.assertEqual(elf.dynamic_symbols.array().shape, (0,))
-            self.assertEqual(elf.segments[1].notes.array()[['n_type', 'desc_size']].tolist(), [(3, 20)])
+            self.assertTrue(elf.syms.array().flags.owndata)
+            self.assertEqual(elf.dynsyms.array().shape, (0,))
+            self.assertEqual(elf.program_headers[1].notes.array()[['n_type', 'desc_size']].tolist(), [(3, 20)])
 
 
 class Library(unittest.TestCase):
@@ -722,13 +711,13 @@ class Library(unittest.TestCase):
         for path, expected in [('/nonexistent', 'No such file or directory'), (__file__, 'invalid ELF header'),
                                ('libc.so.6', 'undefined symbol: goblin_version')]:
             status, said = self.load(path)
-            start = f'ImportError: GOBLIN_ELF_LIBRARY is {path}, which can not be loaded as libgoblin_c.so.{constants.VERSION}: '
+            start = f'ImportError: GOBLIN_ELF_LIBRARY is {path}, which can not be loaded as libgoblin_c.so.{goblin_elf.INTERFACE}: '
             self.assertTrue(status == 1 and said.startswith(start) and said.endswith(expected), said)
         with tempfile.TemporaryDirectory() as folder:
             # of another interface, with calls that are missing, and with all of them and another layout
             calls = ''.join(f'void goblin_{name}(void) {{}}\n' for name in _library.CALLS if name not in ('version', 'layout'))
-            for version, more, expected in [(4, calls, 'has interface 4, not '), (constants.VERSION, '', 'has other calls or structs'),
-                                            (constants.VERSION, calls, 'has other calls or structs')]:
+            for version, more, expected in [(4, calls, 'has interface 4, not '), (goblin_elf.INTERFACE, '', 'has other calls or structs'),
+                                            (goblin_elf.INTERFACE, calls, 'has other calls or structs')]:
                 source, path = os.path.join(folder, 'wrong.c'), os.path.join(folder, 'wrong.so')
                 with open(source, 'w') as file:
                     file.write(f'unsigned goblin_version(void) {{ return {version}; }}\n'
@@ -752,9 +741,16 @@ class Library(unittest.TestCase):
             self.assertEqual(names['__version__'], re.search(r'^version = "(.*)"', file.read(), re.M)[1])
         with open(os.path.join(FOLDER, '..', 'README.md'), encoding='utf-8') as file:
             used = set(re.findall(r'\b(?:EM|SHT|STT)_\w+', '\n'.join(re.findall(r'`([^`]*)`', file.read()))))
-        self.assertEqual({name: names[name] for name in used}, {'EM_X86_64': 62, 'SHT_NOTE': 7, 'STT_FUNC': 2})
-        self.assertEqual(sorted(set(goblin_elf.__all__) - set(names)), [])
-        self.assertEqual([name for name in ('elf', 'enum', 'items', 'constants') if name in names], [])
+        self.assertEqual({name: getattr(goblin_elf, name) for name in used}, {'EM_X86_64': 62, 'SHT_NOTE': 7, 'STT_FUNC': 2})
+        # (a star takes the names of the package, and no constants)
+        self.assertEqual((set(names) - {'__builtins__'}, names['VERSION'], names['INTERFACE']),
+                         (set(goblin_elf.__all__), names['__version__'], _library.LIBRARY.goblin_version()))
+        self.assertEqual([name for name in goblin_elf.__all__ if hasattr(constants, name)], [])
+        exec('from goblin_elf.constants import *', names)
+        self.assertEqual({name: names[name] for name in used}, {name: getattr(goblin_elf, name) for name in used})
+        # (other modules than that of constants and the commands are private)
+        public = {name for name in os.listdir(os.path.dirname(goblin_elf.__file__)) if not name.startswith('_')}
+        self.assertEqual(public - {_library.NAME}, {'constants.py', 'scan.py', 'py.typed'})
 
     def test_constants(self):
         self.assertEqual((EM_X86_64, SHT_RELA, int(goblin_elf.SHN_XINDEX), goblin_elf.ELFMAG), (62, 4, 0xffff, b'\x7fELF'))
@@ -766,7 +762,7 @@ class Library(unittest.TestCase):
         """Those of each class and method that is not private can be looked up."""
         found = {}
         for value in (getattr(goblin_elf, name) for name in goblin_elf.__all__):
-            if getattr(value, '__module__', '') in ('goblin_elf.elf', 'goblin_elf.items', 'goblin_elf.names', 'goblin_elf.refused'):
+            if getattr(value, '__module__', '') in ('goblin_elf._elf', 'goblin_elf._items', 'goblin_elf._names', 'goblin_elf._refused'):
                 members = [getattr(value, name) for name in vars(value) if not name.startswith('_')]
                 members = [getattr(member, 'fget', getattr(member, 'func', member)) for member in members]
                 for function in [value, *filter(callable, members)]:
@@ -787,9 +783,10 @@ class Library(unittest.TestCase):
 
     def test_numbers_are_not_cut(self):
         elf = Elf(MADE.bytes)
-        for call in (elf.symbol_at, elf.offset_of, lambda number: elf.number(number, 1), lambda number: elf.section('', number),
-                     lambda number: Notes(elf, 0, 0, number), lambda number: elf.section('.rela.text').relocations[0]._replace(r_sym=number).symbol,
-                     lambda number: elf.sections[1]._replace(sh_link=number).linked):
+        for call in (elf.symbol_by_address, elf.address_to_offset, lambda number: elf.number(number, 1),
+                     lambda number: elf.section_by_name('', number), lambda number: Notes(elf, 0, 0, number),
+                     lambda number: elf.section_by_name('.rela.text').relocs[0].replace(r_sym=number).symbol,
+                     lambda number: elf.section_headers[1].replace(sh_link=number).linked_section):
             for number in (-1, 1 << 64):
                 self.assertRaises(ValueError, call, number)
             self.assertRaises(TypeError, call, 1.0)
@@ -797,7 +794,7 @@ class Library(unittest.TestCase):
 
     def test_what_others_say_of_the_calls_of_python(self):
         with unittest.mock.patch.object(ctypes.pythonapi.PyObject_GetBuffer, 'argtypes', [ctypes.py_object, ctypes.c_char_p, ctypes.c_int]):
-            self.assertEqual(len(Elf(MADE.bytes).sections), 9)
+            self.assertEqual(len(Elf(MADE.bytes).section_headers), 9)
 
 
 class Wheel(unittest.TestCase):
@@ -821,14 +818,17 @@ class Wheel(unittest.TestCase):
             sums = {name: base64.urlsafe_b64encode(hashlib.sha256(read).digest()).decode().rstrip('=') for name, read in content.items()}
             self.assertEqual(rows, {name: f'sha256={sums[name]},{len(read)}' for name, read in content.items()})
             with open(_library.where(), 'rb') as file:
-                self.assertEqual(content[f'goblin_elf/libgoblin_c.so.{constants.VERSION}'], file.read())
+                self.assertEqual(content[f'goblin_elf/libgoblin_c.so.{goblin_elf.INTERFACE}'], file.read())
 
 
 class Program(unittest.TestCase):
-    def run_it(self, *arguments):
-        found = subprocess.run([sys.executable, '-m', 'goblin_elf', *arguments], stdout=subprocess.PIPE, encoding='utf-8',
-                               env={**os.environ, 'PYTHONIOENCODING': 'utf-8'})
-        return found.returncode, found.stdout
+    COMMAND = [sys.executable, '-m', 'goblin_elf']
+
+    def run_it(self, *arguments, encoding='utf-8', **given):
+        """Runs it, and returns its exit status, what it printed, and what it said of errors."""
+        found = subprocess.run([*self.COMMAND, *arguments], stdout=given.pop('stdout', subprocess.PIPE), stderr=subprocess.PIPE, timeout=60,
+                               env={**os.environ, 'PYTHONIOENCODING': encoding}, **given)
+        return found.returncode, (found.stdout or b'').decode(encoding), found.stderr.decode()
 
     def test_files(self):
         with tempfile.TemporaryDirectory() as folder:
@@ -836,7 +836,7 @@ class Program(unittest.TestCase):
             for path, content in zip(paths, (MADE.bytes, bytes(16))):
                 with open(path, 'wb') as file:
                     file.write(content)
-            status, said = self.run_it(*paths)
+            status, said, _ = self.run_it(*paths)
             for line in ('  kind             object', '  class            ELF64', f'  build id         {made.BUILD_ID.hex()}',
                          '  entry            0x1004', '  symbols          7', '  stripped         no', '  code             128',
                          '  text             Invalid magic number: 0x0', '  refused          BAD_MAGIC',
@@ -848,32 +848,29 @@ class Program(unittest.TestCase):
             found = subprocess.run(leaves, shell=True, cwd=folder, stdout=subprocess.PIPE, stderr=subprocess.PIPE, universal_newlines=True)
             self.assertEqual((found.stdout, found.stderr), ('made.o\n', ''))
             # (whoever waits for it may end it by Ctrl-C, which a test in the background ignores: it has printed the first of many files)
-            running = subprocess.Popen([sys.executable, '-m', 'goblin_elf', *['made.o'] * 2000], cwd=folder, stdout=subprocess.PIPE,
-                                       stderr=subprocess.PIPE, preexec_fn=lambda: signal.signal(signal.SIGINT, signal.SIG_DFL))
+            running = subprocess.Popen([*self.COMMAND, *['made.o'] * 2000], cwd=folder, stdout=subprocess.PIPE, stderr=subprocess.PIPE,
+                                       preexec_fn=lambda: signal.signal(signal.SIGINT, signal.SIG_DFL))
             self.assertEqual(running.stdout.readline(), b'made.o\n')
             running.send_signal(signal.SIGINT)
             self.assertEqual((running.communicate(timeout=60)[1], running.returncode), (b'', -signal.SIGINT))
-            # (a stream that does not take each sign gets others)
-            found = subprocess.run([sys.executable, '-m', 'goblin_elf', 'made.o', 'odd\n', b'\xc3\xa9'], cwd=folder, stdout=subprocess.PIPE,
-                                   stderr=subprocess.PIPE, env={**os.environ, 'PYTHONIOENCODING': 'ascii'})
-            self.assertEqual((found.stdout.decode('ascii').split('\n')[0], b'\nodd?\n' in found.stdout, found.stderr), ('made.o', True, b''))
-            # (in the locale C the last name has two signs)
-            self.assertRegex(found.stdout, rb'\n\?\??\n')
+            # (a stream that does not take each sign gets others: in the locale C the last name has two signs)
+            _, said, errors = self.run_it('made.o', 'odd\n', b'\xc3\xa9', encoding='ascii', cwd=folder)
+            self.assertEqual((said.split('\n')[0], '\nodd?\n' in said, errors), ('made.o', True, ''))
+            self.assertRegex(said, r'\n\?\??\n')
             # (one that is full is said in a line)
             with open('/dev/full', 'w') as full:
-                found = subprocess.run([sys.executable, '-m', 'goblin_elf', *paths], stdout=full, stderr=subprocess.PIPE, universal_newlines=True)
-            self.assertEqual((found.returncode, found.stderr),
-                             (2, 'python -m goblin_elf: the output can not be written: No space left on device\n'))
+                self.assertEqual(self.run_it(*paths, stdout=full),
+                                 (2, '', 'python -m goblin_elf: the output can not be written: No space left on device\n'))
             # (as errors may be, and each may be closed)
             for command in ('> /dev/full 2>&1', '>&-', '>&- 2>&-'):
                 found = subprocess.run(f'{sys.executable} -m goblin_elf made.o {command}', shell=True, cwd=folder, stderr=subprocess.DEVNULL)
                 self.assertEqual(found.returncode, 2)
-            self.assertEqual(self.run_it(''), (1, '\n  error            No such file or directory\n'))
-            status, said = self.run_it('--json', *paths[:1])
+            self.assertEqual(self.run_it('')[:2], (1, '\n  error            No such file or directory\n'))
+            status, said, _ = self.run_it('--json', *paths[:1])
             found = json.loads(said)[0]
             self.assertEqual((status, found['type'], found['entry'], found['needed'], found['sizes']['code']), (0, 'REL', 0x1004, [], 128))
             # (strict readers refuse a surrogate without its pair, as that by which Python decodes a byte that is not UTF-8)
-            status, said = self.run_it('--json', b'caf\xe9 \xf0\x9f\x92\x80')
+            status, said, _ = self.run_it('--json', b'caf\xe9 \xf0\x9f\x92\x80')
             self.assertEqual((status, json.loads(said)[0]['file']), (1, 'caf\ufffd \U0001f480'))
 
     def test_what_is_no_ordinary_file(self):
@@ -884,19 +881,17 @@ class Program(unittest.TestCase):
                 file.write(MADE.bytes)
             os.mkfifo(paths[1])
             paths += ['/dev/zero', folder, '/proc/kmsg', paths[0]]
-            for more in ([], ['--json']):
-                found = subprocess.run([sys.executable, '-m', 'goblin_elf', *more, *paths], stdout=subprocess.PIPE, encoding='utf-8', timeout=60,
-                                       preexec_fn=limit_memory)
-                self.assertEqual(found.returncode, 1)
-            self.assertEqual([(row['file'], row.get('kind'), row.get('error') or row.get('refused')) for row in json.loads(found.stdout)],
-                             [(paths[0], 'object', None), *((path, None, 'it is no ordinary file') for path in paths[1:3]),
-                              (folder, None, 'Is a directory'), ('/proc/kmsg', None, 'TOO_SMALL'), (paths[0], 'object', None)])
+            self.assertEqual(self.run_it(*paths, preexec_fn=limit_memory)[0], 1)
+            status, said, _ = self.run_it('--json', *paths, preexec_fn=limit_memory)
+            self.assertEqual((status, [(row['file'], row.get('kind'), row.get('error') or row.get('refused')) for row in json.loads(said)]),
+                             (1, [(paths[0], 'object', None), *((path, None, 'it is no ordinary file') for path in paths[1:3]),
+                                  (folder, None, 'Is a directory'), ('/proc/kmsg', None, 'TOO_SMALL'), (paths[0], 'object', None)]))
 
     def test_numbers_without_a_name(self):
         """They stand after the word for it."""
         for e_type, e_machine, expected in ((0xfe00, 36902, 'UNKNOWN_ET (65024) EM_UNKNOWN (36902)'), (1, 62, 'REL X86_64')):
             elf = Elf(bytearray(made.ALL[2].bytes))
-            elf.put_header(elf.header._replace(e_type=e_type, e_machine=e_machine))
+            elf.put_header(elf.header.replace(e_type=e_type, e_machine=e_machine))
             found = program.facts(elf)
             self.assertEqual(f'{found["type"]} {found["machine"]}', expected)
             self.assertIn(expected, repr(elf))
@@ -913,13 +908,11 @@ class Program(unittest.TestCase):
         with open(os.path.join(FOLDER, '..', 'README.md'), encoding='utf-8') as file:
             rows = re.findall(r'^\|`([^|]*)`\|`([^|]*)`\|$', file.read(), re.M)
         self.assertEqual(len(rows), 11)
-        with tempfile.NamedTemporaryFile() as file:
-            file.write(MADE.bytes)
-            file.flush()
+        with in_file(MADE.bytes) as file:
             names = {**vars(goblin_elf), 'path': file.name}
             elf = names['elf'] = Elf.open(file.name)
-            names.update(section=elf.section('.rela.text'), symbol=elf.symbols[1], relocation=elf.section('.rela.text').relocations[0],
-                         segment=elf.segments[1])
+            names.update(section=elf.section_by_name('.rela.text'), symbol=elf.syms[1], relocation=elf.section_by_name('.rela.text').relocs[0],
+                         segment=elf.program_headers[1])
             for _, ours in rows:
                 for line in ours.split('`, `'):
                     (exec if line.startswith('for ') else eval)(line, dict(names))
@@ -929,9 +922,5 @@ class Program(unittest.TestCase):
         path = os.path.join(FOLDER, '..', '..', '..', 'checks', 'files', 'made', 'x86_64_program')
         found = program.described(path)
         self.assertEqual((found['kind'], found['needed'], found['interpreter']), ('program', ['libc.so.6'], '/lib64/ld-linux-x86-64.so.2'))
-        paths = [segment.strings.get(0) for segment in Elf.open(path).segments if segment.p_type == constants.PT_INTERP]
+        paths = [segment.strtab.get(0) for segment in Elf.open(path).program_headers if segment.p_type == constants.PT_INTERP]
         self.assertEqual(paths, ['/lib64/ld-linux-x86-64.so.2'])
-
-
-if __name__ == '__main__':
-    unittest.main()

@@ -16,12 +16,10 @@ import random
 import resource
 import shutil
 import signal
-import struct
 import subprocess
 import sys
 import tarfile
 import tempfile
-import threading
 import time
 import tracemalloc
 import types
@@ -30,9 +28,10 @@ import unittest.mock
 import zlib
 
 import made
+from goblin_elf import _workers as workers
 from goblin_elf import scan as module
-from goblin_elf import workers
 from goblin_elf._library import LIBRARY
+from parts import started
 
 try:
     import distributed
@@ -40,6 +39,14 @@ except ImportError:
     distributed = None
 
 SCAN = [sys.executable, '-m', 'goblin_elf.scan']
+# A script that runs a scan by its arguments, with a limit.
+LIMITED = 'import resource, runpy, sys; resource.setrlimit(*{}); sys.argv = sys.argv[1:]; runpy.run_module("goblin_elf.scan", run_name="__main__")'
+SMALL, LARGE = made.ALL[0].bytes, made.ALL[3].bytes
+LEFT, CANT, TAKEN = 'LEFT_OUT', 'its data can not be unpacked: ', 'another goblin-scan writes it'
+DAMAGED, MEMORY = 'the archive is damaged or cut: it may have more members', 'it takes more memory than a worker may take'
+PATHS = {'PYTHONPATH': os.pathsep.join(filter(None, sys.path))}
+OTHER_LOCALE = {'LC_ALL': 'C', 'PYTHONUTF8': '0', 'PYTHONCOERCECLOCALE': '0'}
+patched = functools.partial(unittest.mock.patch.object, module)
 
 
 def setUpModule():
@@ -48,12 +55,20 @@ def setUpModule():
         print('\ndistributed is not installed, so Dask is not tested')
 
 
-def scan(*arguments):
-    """Runs it in this process, and returns what it printed."""
+def ended(*arguments):
+    """Runs it in this process, and returns its exit status and what it printed."""
     with contextlib.redirect_stderr(io.StringIO()) as said:
-        if module.main(list(arguments)):
-            raise AssertionError(said.getvalue())
-    return said.getvalue()
+        try:
+            status = module.main(list(arguments))
+        except SystemExit as error:
+            status = error.code
+    return status, said.getvalue()
+
+
+def run(*command, **more):
+    """Runs a command, and returns how it ended. Other variables of the environment may be given."""
+    env = {**os.environ, **more.pop('env', {})}
+    return subprocess.run(command, stderr=subprocess.PIPE, universal_newlines=True, env=env, **more)
 
 
 def read(path):
@@ -61,11 +76,21 @@ def read(path):
         return file.read()
 
 
-def archive(members):
-    """Returns an `ar` archive. A name of more than 15 bytes is in its table of names."""
+def write(path, content):
+    with open(path, 'wb') as file:
+        file.write(content if isinstance(content, (bytes, bytearray)) else content.encode())
+
+
+def columns(rows, *names):
+    """Returns a column of some rows, or more of them."""
+    return [row[names[0]] if len(names) == 1 else tuple(row[name] for name in names) for row in rows]
+
+
+def archive(*members):
+    """Returns an `ar` archive. A name of more than 15 bytes is in its table of names. One that starts with # is as BSD's ar writes it."""
     long = ''.join(f'{name}/\n' for name, _ in members if len(name) > 15)
     entries = [('//', long.encode())] if long else []
-    entries += [(f'/{long.index(name)}' if len(name) > 15 else f'{name}/', content) for name, content in members]
+    entries += [(f'/{long.index(name)}' if len(name) > 15 else name if name[:1] in '#/' else f'{name}/', content) for name, content in members]
     bytes_of = bytearray(b'!<arch>\n')
     for name, content in entries:
         bytes_of += f'{name:16}{0:<12}{0:<6}{0:<6}{"644":8}{len(content):<10}`\n'.encode() + content + b'\n' * (len(content) % 2)
@@ -86,27 +111,12 @@ def tarred(*members, mode='w'):
 
 def package(content, name='./usr/bin/made'):
     """Returns a .deb whose data has a file."""
-    return archive([('debian-binary', b'2.0\n'), ('data.tar.xz', tarred((name, content), mode='w:xz'))])
+    return archive(('debian-binary', b'2.0\n'), ('data.tar.xz', tarred((name, content), mode='w:xz')))
 
 
 def linked(needed, soname, interpreter):
     """Returns a program with a dynamic section, of names in bytes."""
-    strings, dynamic = b'\0', b''
-    for tag, name in [*((1, name) for name in needed), (14, soname)]:
-        dynamic += struct.pack('<QQ', tag, len(strings))
-        strings += name + b'\0'
-    parts = {}
-    content = bytearray(64 + 3 * 56)
-    for name, part in (('strings', strings), ('interpreter', interpreter + b'\0')):
-        parts[name] = len(content), len(part)
-        content += part
-    dynamic += struct.pack('<QQQQQQ', 5, parts['strings'][0], 10, len(strings), 0, 0)
-    parts['dynamic'] = len(content), len(dynamic)
-    content += dynamic
-    for index, (kind, (offset, size)) in enumerate([(1, (0, len(content))), (2, parts['dynamic']), (3, parts['interpreter'])]):
-        struct.pack_into('<' + made.PHDR[64], content, 64 + 56 * index, kind, 4, offset, offset, offset, size, size, 1)
-    struct.pack_into('<' + made.EHDR[64], content, 0, b'\x7fELF\2\1\1' + bytes(9), 3, 62, 1, 0, 64, 0, 0, 64, 56, 3, 64, 0, 0)
-    return bytes(content)
+    return made.linked(*((1, name) for name in needed), (14, soname), interpreter=interpreter)
 
 
 def texts(row):
@@ -125,10 +135,9 @@ class StandInForPyarrow(types.ModuleType):
                      'uint64': lambda value: type(value) is int and 0 <= value < 1 << 64}
             if len(rows) > module.GROUP:
                 raise MemoryError
-            for row in rows:
-                for name, kind in schema:
-                    if row[name] is not None and not takes[kind](row[name]):
-                        raise TypeError(f'{name} is {row[name]!r}')
+            for row, (name, kind) in itertools.product(rows, schema):
+                if row[name] is not None and not takes[kind](row[name]):
+                    raise TypeError(f'{name} is {row[name]!r}')
             return cls({name: row[name] for name, _ in schema} for row in rows)
 
         def to_pylist(self):
@@ -148,12 +157,10 @@ class StandInForPyarrow(types.ModuleType):
     def writer(self, path, schema):
         rows = []
         yield types.SimpleNamespace(write_table=rows.extend)
-        with open(path, 'w', encoding='utf-8') as file:
-            json.dump(rows, file)
+        write(path, json.dumps(rows))
 
     def reader(self, path):
-        with open(path, encoding='utf-8') as file:
-            rows = json.load(file)
+        rows = json.loads(read(path).decode())
         groups = [self.Table(rows[start:start + 7]) for start in range(0, len(rows), 7)]
         return types.SimpleNamespace(num_row_groups=len(groups), read_row_group=groups.__getitem__)
 
@@ -165,76 +172,94 @@ class Folder(unittest.TestCase):
         folder = tempfile.TemporaryDirectory()
         self.addCleanup(folder.cleanup)
         self.folder, self.files = folder.name, os.path.join(folder.name, 'files')
-        os.makedirs(os.path.join(self.files, 'sub'))
-
-    def put(self, name, content):
-        with open(os.path.join(self.files, name), 'wb') as file:
-            file.write(content)
-
-    def put_many(self, count):
-        for index in range(count):
-            content = made.ALL[index % 4].bytes
-            self.put(f'{index:05}', content[:len(content) - index % 7 // 6])
+        os.makedirs(self.path('sub'))
 
     def out(self, name):
         return os.path.join(self.folder, name)
 
-    def rows(self, name):
+    def path(self, name):
+        return os.path.join(self.files, name)
+
+    def put(self, **contents):
+        """Writes files. In a name _ is a dot, and that of one in the folder sub begins with sub__."""
+        for name, content in contents.items():
+            write(self.path(name.replace('__', '/').replace('_', '.')), content)
+
+    def put_data(self, data):
+        self.put(x_deb=archive(('data.tar', data)))
+
+    def put_many(self, count):
+        for index in range(count):
+            content = made.ALL[index % 4].bytes
+            write(self.path(f'{index:05}'), content[:len(content) - index % 7 // 6])
+
+    def enter(self, folder):
+        self.addCleanup(os.chdir, '/')
+        os.chdir(folder)
+
+    def scan(self, *arguments, name='r.csv', folders=None):
+        """Scans the files, or others, and returns what is printed."""
+        status, said = ended(*(folders or [self.files]), '-o', self.out(name), '--workers', '0', *arguments)
+        self.assertEqual(status, 0, said)
+        return said
+
+    def rows(self, name='r.csv'):
         with open(self.out(name), newline='', encoding='utf-8') as file:
-            return list(csv.DictReader(file))
+            return list(csv.DictReader(file)) if name.endswith('.csv') else json.load(file)
+
+    def scanned(self, *names, options=(), **given):
+        """Scans the files, or others, and returns columns of the report."""
+        self.scan(*options, **given)
+        return columns(self.rows(), *names)
+
+    def unpacked(self, *names):
+        """Returns columns of the rows of a package."""
+        return columns(module.rows_of(self.path('x.deb')), *names)
+
+    def check_same(self, one, other):
+        self.assertEqual(read(self.out(one)), read(self.out(other)))
 
 
 class Scan(Folder):
     """What a report has, made by one process."""
 
     def test_rows(self):
-        elf = made.ALL[3].bytes
-        self.put('b.o', elf)
-        self.put('a\n', elf[:-1])
-        self.put('text', b'no ELF file')
-        self.put('sub/x.a', archive([('x.o', elf), ('a_name_that_is_long.o', elf), ('no.o', b'odd')]))
-        # (as BSD's ar writes a long name)
-        self.put('sub/y.a', archive([('#1/20', b'a long name.o\0\0\0\0\0\0\0' + elf)]).replace(b'#1/20/', b'#1/20 '))
-        # (a thin one holds the names of its members alone)
-        self.put('sub/z.a', b'!<thin>\n')
-        self.put('y.deb', package(elf))
-        self.put('z.deb', archive([('data.tar.xz', b'no such data')]))
-        os.symlink('b.o', os.path.join(self.files, 'link'))
-        said = scan(self.files, '-o', self.out('r.csv'), '--workers', '0')
-        rows = self.rows('r.csv')
+        self.put(b_o=LARGE, text=b'no ELF file', y_deb=package(LARGE), z_deb=archive(('data.tar.xz', b'no such data')), **{'a\n': LARGE[:-1]},
+                 sub__x_a=archive(('x.o', LARGE), ('a_name_that_is_long.o', LARGE), ('no.o', b'odd')),
+                 # (as BSD's ar writes a long name, and a thin one, which holds the names of its members alone)
+                 sub__y_a=archive(('#1/20', b'a long name.o\0\0\0\0\0\0\0' + LARGE)), sub__z_a=b'!<thin>\n')
+        os.symlink('b.o', self.path('link'))
+        said = self.scan()
+        rows = self.rows()
         self.assertEqual([(os.path.relpath(row['file'], self.files), row['member'], row['refused']) for row in rows],
                          [('a\\x0a', '', 'TOO_BIG'), ('b.o', '', ''), ('sub/x.a', 'x.o', ''), ('sub/x.a', 'a_name_that_is_long.o', ''),
-                          ('sub/y.a', 'a long name.o', ''), ('sub/z.a', '', 'LEFT_OUT'), ('y.deb', './usr/bin/made', ''), ('z.deb', '', 'LEFT_OUT')])
-        self.assertEqual([(row['class'], row['order'], row['type'], row['build_id'], row['symbols'], row['code']) for row in rows[1:2]],
+                          ('sub/y.a', 'a long name.o', ''), ('sub/z.a', '', LEFT), ('y.deb', './usr/bin/made', ''), ('z.deb', '', LEFT)])
+        self.assertEqual(columns(rows[1:2], 'class', 'order', 'type', 'build_id', 'symbols', 'code'),
                          [('ELF64', 'big', 'REL', made.BUILD_ID.hex(), '7', '128')])
-        self.assertEqual((rows[0]['numbers'], rows[0]['text']), ('64 63', 'type is too big (64) for 63'))
+        self.assertEqual(columns(rows[:1], 'numbers', 'text'), [('64 63', 'type is too big (64) for 63')])
         for line in ('8 files, 3 refused', '  refused: 1 TOO_BIG', '  refused: 2 LEFT_OUT'):
             self.assertIn(line, said)
 
     def test_static_libraries_of_packages(self):
-        elf = made.ALL[3].bytes
-        library = archive([('a.o', elf), ('text', b'odd'), ('b.o', elf)])
-        self.put('x.deb', archive([('data.tar', tarred(('./x.a', library), ('./cut.a', library[:1422]), ('./text', library), ('./c', elf)))]))
-        with unittest.mock.patch.object(module, 'MEMBER', len(library)):
-            scan(self.files, '-o', self.out('r.csv'), '--workers', '0')
-        damaged = 'the archive is damaged or cut: it may have more members'
-        self.assertEqual([(row['member'], row['text']) for row in self.rows('r.csv')],
-                         [('./x.a(a.o)', ''), ('./x.a(b.o)', ''), ('./cut.a(a.o)', ''), ('./cut.a', damaged), ('./c', '')])
-        with unittest.mock.patch.object(module, 'MEMBER', len(library) - 1):
-            self.assertEqual(next(module.rows_of(os.path.join(self.files, 'x.deb')))['text'], 'a member of a package with more than 64 MiB')
+        library = archive(('a.o', LARGE), ('text', b'odd'), ('b.o', LARGE))
+        self.put_data(tarred(('./x.a', library), ('./cut.a', library[:1422]), ('./text', library), ('./c', LARGE)))
+        with patched('MEMBER', len(library)):
+            self.assertEqual(self.scanned('member', 'text'),
+                             [('./x.a(a.o)', ''), ('./x.a(b.o)', ''), ('./cut.a(a.o)', ''), ('./cut.a', DAMAGED), ('./c', '')])
+        with patched('MEMBER', len(library) - 1):
+            self.assertEqual(self.unpacked('text')[0], 'a member of a package with more than 64 MiB')
 
     def test_hard_links_of_packages(self):
         """Each name of a file has the rows that it has in a folder, also if it is a link to a link."""
-        elf = made.ALL[3].bytes
-        library = archive([('a.o', elf), ('b.o', elf)])
-        large, cut = elf.ljust(len(library) + 1), library[:-len(elf)]
-        files = [('./a', elf), ('./text', b'odd'), ('./x.a', library), ('./cut.a', cut), ('./large', large)]
+        library = archive(('a.o', LARGE), ('b.o', LARGE))
+        cut, large = library[:-len(LARGE)], LARGE.ljust(len(library) + 1)
+        files = [('./a', LARGE), ('./text', b'odd'), ('./x.a', library), ('./cut.a', cut), ('./large', large)]
         links = [('./b', './a'), ('./c', './b'), ('./d', './text'), ('./y.a', './x.a'), ('./y', './x.a'), ('./z.a', './y.a'), ('./cut2.a', './cut.a'),
                  ('./l', './large'), ('./c', './c'), ('./d', './absent')]
         made_of = [(name, b'', ('type', tarfile.LNKTYPE), ('linkname', file)) for name, file in links]
-        self.put('x.deb', archive([('data.tar', tarred(*files, *made_of, ('./a', b'odd'), made_of[0]))]))
-        with unittest.mock.patch.object(module, 'MEMBER', len(library)):
-            rows = list(module.rows_of(os.path.join(self.files, 'x.deb')))
+        self.put_data(tarred(*files, *made_of, ('./a', b'odd'), made_of[0]))
+        with patched('MEMBER', len(library)):
+            rows = list(module.rows_of(self.path('x.deb')))
         first = {row['member']: {**row, 'member': None} for row in rows[:6]}
         self.assertEqual(list(first), ['./a', './x.a(a.o)', './x.a(b.o)', './cut.a(a.o)', './cut.a', './large'])
         expected = [('./b', './a'), ('./c', './a'), ('./y.a(a.o)', './x.a(a.o)'), ('./y.a(b.o)', './x.a(b.o)'), ('./z.a(a.o)', './x.a(a.o)'),
@@ -243,68 +268,53 @@ class Scan(Folder):
 
     def test_long_names_of_members(self):
         """Of a name at most as many bytes are in a row as a path has."""
-        elf, name = made.ALL[3].bytes, 'x' * 5000
-        self.put('a.a', archive([(name, elf), (name, elf)]))
-        self.put('b.a', archive([('#1/5000', name.encode() + elf)]).replace(b'#1/5000/', b'#1/5000 '))
-        self.put('c.deb', package(elf, name))
-        scan(self.files, '-o', self.out('r.csv'), '--workers', '0')
-        self.assertEqual([(row['member'], row['symbols']) for row in self.rows('r.csv')], [('x' * 4096, '7')] * 4)
+        name = 'x' * 5000
+        self.put(a_a=archive((name, LARGE), (name, LARGE)), b_a=archive(('#1/5000', name.encode() + LARGE)), c_deb=package(LARGE, name))
+        self.assertEqual(self.scanned('member', 'symbols'), [('x' * 4096, '7')] * 4)
 
     def test_names_of_members_in_another_locale(self):
         """They are in the report as in each other one."""
-        elf = made.ALL[3].bytes
-        self.put('a.a', archive([('..x.o', elf)]).replace(b'..x', 'éx'.encode()))
-        self.put('b.deb', package(elf, 'éx.o'))
-        subprocess.run([*SCAN, self.files, '-o', self.out('r.csv'), '--workers', '0'], check=True,
-                       stderr=subprocess.PIPE,
-                       env={**os.environ, 'LC_ALL': 'C', 'PYTHONUTF8': '0', 'PYTHONCOERCECLOCALE': '0'})
-        self.assertEqual([row['member'] for row in self.rows('r.csv')], ['éx.o'] * 2)
+        self.put(a_a=archive(('..x.o', LARGE)).replace(b'..x', 'éx'.encode()), b_deb=package(LARGE, 'éx.o'))
+        run(*SCAN, self.files, '-o', self.out('r.csv'), '--workers', '0', env=OTHER_LOCALE, check=True)
+        self.assertEqual(columns(self.rows(), 'member'), ['éx.o'] * 2)
 
     def test_bounds_of_packages(self):
         """What is unpacked of a package is bounded, whatever its headers say, and only its first data is."""
-        files = [(str(index), made.ALL[3].bytes) for index in range(8)]
-        self.put('a.deb', archive([('data.tar', tarred(*files))]))
-        self.put('b.deb', archive([('data.tar', tarred(('less', b'', ('type', tarfile.DIRTYPE), ('size', -1 << 62)), *files))]))
-        self.put('c.deb', archive([('data.tar', tarred(*[('empty', b'')] * 64, *files))]))
-        self.put('d.deb', archive([('data.tar', tarred(files[0]))] * 3))
-        self.put('e.deb', archive([('data.tar', b''), ('none', tarred(files[0]))]))
-        self.put('f.deb', archive([('#1/8', b'data.tar' + tarred(files[0]))]).replace(b'#1/8/', b'#1/8 '))
+        files = [(str(index), LARGE) for index in range(8)]
+        one = tarred(files[0])
+        self.put(a_deb=archive(('data.tar', tarred(*files))), d_deb=archive(*[('data.tar', one)] * 3),
+                 b_deb=archive(('data.tar', tarred(('less', b'', ('type', tarfile.DIRTYPE), ('size', -1 << 62)), *files))),
+                 c_deb=archive(('data.tar', tarred(*[('empty', b'')] * 64, *files))), e_deb=archive(('data.tar', b''), ('none', one)),
+                 f_deb=archive(('#1/8', b'data.tar' + one)))
         # (each file has 2,048 bytes with its header)
-        with unittest.mock.patch.object(module, 'PACKAGE', 4 * 2048):
-            scan(self.files, '-o', self.out('r.csv'), '--workers', '0')
-        found = [(os.path.basename(row['file'])[:1], row['member'] or row['refused']) for row in self.rows('r.csv')]
-        self.assertEqual(found, [*[('a', str(index)) for index in range(4)], ('a', 'LEFT_OUT'), ('b', 'LEFT_OUT'), ('c', 'LEFT_OUT'), ('d', '0'),
-                                 ('e', 'LEFT_OUT'), ('f', '0')])
+        with patched('PACKAGE', 4 * 2048):
+            self.scan()
+        found = [(os.path.basename(row['file'])[:1], row['member'] or row['refused']) for row in self.rows()]
+        self.assertEqual(found, [*[('a', str(index)) for index in range(4)], *((name, LEFT) for name in 'abc'), ('d', '0'), ('e', LEFT), ('f', '0')])
         # (the rows of any file have few characters together)
-        self.put('a.a', archive(files))
-        for path in (os.path.join(self.files, 'a.deb'), os.path.join(self.files, 'a.a')):
-            with unittest.mock.patch.object(module, 'ROWS', 2 * len(str(next(module.rows_of(path))))):
+        self.put(a_a=archive(*files))
+        for path in (self.path('a.deb'), self.path('a.a')):
+            with patched('ROWS', 2 * len(str(next(module.rows_of(path))))):
                 (_, rows, _), = module.examine([path])
             self.assertEqual([row['member'] or row['text'] for row in rows], ['0', '1', 'its rows have more than 64 MiB'])
 
     def test_headers_that_no_package_has(self):
         """Python may take hours or all memory for some that dpkg refuses, too. What comes before one is in the report."""
-        elf = made.ALL[3].bytes
         headers = [(kind, b'1' * 4096) for kind in (tarfile.XHDTYPE, tarfile.XGLTYPE, tarfile.SOLARIS_XHDTYPE, tarfile.GNUTYPE_SPARSE, b'V')]
         headers += [(kind, b'x' * 65537) for kind in (tarfile.GNUTYPE_LONGNAME, tarfile.GNUTYPE_LONGLINK)]
-        refused = None, 'its data can not be unpacked: a header has a type or size that is not read'
         for fields in (*[(content, ('type', kind)) for kind, content in headers], (b'', ('type', tarfile.DIRTYPE), ('size', -1024))):
-            self.put('x.deb', archive([('data.tar', tarred(('a', elf), ('b', *fields), ('c', elf)))]))
-            rows = list(module.rows_of(os.path.join(self.files, 'x.deb')))
-            self.assertEqual([(row['member'], row['text']) for row in rows], [('a', None), refused])
+            self.put_data(tarred(('a', LARGE), ('b', *fields), ('c', LARGE)))
+            self.assertEqual(self.unpacked('member', 'text'), [('a', None), (None, CANT + 'a header has a type or size that is not read')])
 
     def test_headers_without_a_bound(self):
         """Millions of them would take minutes: those of the tar, also for long names, and those of static libraries in it count."""
-        elf, long = made.ALL[3].bytes, 'x' * 200
-        library = archive([('a', elf), ('b', b''), ('c', elf)])
-        refused = 'its data can not be unpacked: it has more than 3 headers'
-        for files, expected in (([('a', elf), ('b', b''), ('c', elf)], ['a', 'c']), ([('a', elf), *[('b', b'')] * 3], ['a', refused]),
-                                ([(long, elf), ('b', elf)], [long, 'b']), ([(long, elf), (long, elf)], [long, refused]),
-                                ([('x.a', library)], ['x.a(a)', refused])):
-            self.put('x.deb', archive([('data.tar', tarred(*files))]))
-            with unittest.mock.patch.object(module, 'HEADERS', 3):
-                rows = list(module.rows_of(os.path.join(self.files, 'x.deb')))
-            self.assertEqual([row['member'] or row['text'] for row in rows], expected)
+        a, b, long = ('a', LARGE), ('b', b''), ('x' * 200, LARGE)
+        refused = CANT + 'it has more than 3 headers'
+        for files, expected in (([a, b, ('c', LARGE)], ['a', 'c']), ([a, b, b, b], ['a', refused]), ([long, ('b', LARGE)], [long[0], 'b']),
+                                ([long, long], [long[0], refused]), ([('x.a', archive(a, b, ('c', LARGE)))], ['x.a(a)', refused])):
+            self.put_data(tarred(*files))
+            with patched('HEADERS', 3):
+                self.assertEqual([member or text for member, text in self.unpacked('member', 'text')], expected)
 
     def test_memory_for_packages(self):
         """A package is unpacked in small parts, and none of them is kept."""
@@ -313,89 +323,76 @@ class Scan(Folder):
         tracemalloc.start()
         self.addCleanup(tracemalloc.stop)
         for data in (*packed, tarred(('empty', b''))[:512] * 2048 + bytes(1024)):
-            self.put('x.deb', archive([('data.tar', data)]))
+            self.put_data(data)
             tracemalloc.clear_traces()
-            self.assertEqual(list(module.rows_of(os.path.join(self.files, 'x.deb'))), [])
+            self.assertEqual(self.unpacked('file'), [])
             self.assertLess(tracemalloc.get_traced_memory()[1], 1 << 20)
-        with unittest.mock.patch.object(module, 'row_of', side_effect=MemoryError):
-            self.put('x.deb', package(made.ALL[0].bytes))
-            (_, (row,), _), = module.examine([os.path.join(self.files, 'x.deb')])
+        with patched('row_of', side_effect=MemoryError):
+            self.put(x_deb=package(SMALL))
+            (_, (row,), _), = module.examine([self.path('x.deb')])
             # (of a batch the other files may have taken it)
-            self.assertRaises(MemoryError, module.examine, [os.path.join(self.files, 'x.deb')] * 2)
-        self.assertEqual((row['refused'], row['text']), ('LEFT_OUT', 'it takes more memory than a worker may take'))
+            self.assertRaises(MemoryError, module.examine, [self.path('x.deb')] * 2)
+        self.assertEqual((row['refused'], row['text']), (LEFT, MEMORY))
 
     def test_memory_without_workers(self):
         """It is bounded as that of a worker, and is that of one file at a time."""
-        data = bytearray(lzma.compress(tarred(('a', made.ALL[3].bytes))))
+        data = bytearray(lzma.compress(tarred(('a', LARGE))))
         # (in the header of its block: a dictionary of 256 MiB, which is taken before anything is unpacked)
         data[16] = 32
         data[20:24] = zlib.crc32(data[12:20]).to_bytes(4, 'little')
-        self.put('x.deb', archive([('data.tar', data)]))
+        self.put_data(data)
         for number in '01':
-            scan(self.files, '-o', self.out('r.csv'), '--workers', number, '--memory', '192MiB')
-            self.assertEqual([row['text'] for row in self.rows('r.csv')], ['it takes more memory than a worker may take'])
+            self.assertEqual(self.scanned('text', options=['--workers', number, '--memory', '192MiB']), [MEMORY])
         # (a limit of the shell, in KiB, that is less counts, too)
-        command = ['sh', '-c', 'ulimit -S -d 196608; exec "$@"', 'sh', *SCAN, self.files, '-o', self.out('r.csv'), '--workers', '1']
-        subprocess.run(command, check=True, stderr=subprocess.PIPE)
-        self.assertEqual([row['text'] for row in self.rows('r.csv')], ['it takes more memory than a worker may take'])
+        run('sh', '-c', 'ulimit -S -d 196608; exec "$@"', 'sh', *SCAN, self.files, '-o', self.out('r.csv'), '--workers', '1', check=True)
+        self.assertEqual(columns(self.rows(), 'text'), [MEMORY])
         self.put_many(3)
-        with unittest.mock.patch.object(module, 'examine', side_effect=module.examine) as examine:
-            scan(self.files, '-o', self.out('r.csv'), '--workers', '0')
+        with patched('examine', side_effect=module.examine) as examine:
+            self.assertEqual(self.scanned('member'), ['', '', '', 'a'])
         self.assertEqual([len(given.args[0]) for given in examine.call_args_list], [1] * 4)
-        self.assertEqual([row['member'] for row in self.rows('r.csv')], ['', '', '', 'a'])
 
     def test_damaged_archives(self):
         """What is not read of one is said."""
-        elf = made.ALL[3].bytes
-        whole, tar = archive([('a.o', elf), ('text', b'odd'), ('b.o', elf)]), tarred(('a', elf), ('b', elf))
+        whole, tar = archive(('a.o', LARGE), ('text', b'odd'), ('b.o', LARGE)), tarred(('a', LARGE), ('b', LARGE))
         # (it is cut in a header and in a member, or a size is no number)
-        left = ('', 'the archive is damaged or cut: it may have more members')
-        for content, expected in ((whole, ('b.o', '')), (whole + b'\n', ('b.o', '')), (whole[:1422], left), (whole[:1418], left),
-                                  (whole.replace(b'3         `', b'3x        `'), left)):
-            self.put('x.a', content)
-            scan(self.files, '-o', self.out('r.csv'), '--workers', '0')
-            self.assertEqual([(row['member'], row['text']) for row in self.rows('r.csv')], [('a.o', ''), expected])
+        for content, expected in ((whole, ('b.o', '')), (whole + b'\n', ('b.o', '')), (whole[:1422], ('', DAMAGED)), (whole[:1418], ('', DAMAGED)),
+                                  (whole.replace(b'3         `', b'3x        `'), ('', DAMAGED))):
+            self.put(x_a=content)
+            self.assertEqual(self.scanned('member', 'text'), [('a.o', ''), expected])
+        os.remove(self.path('x.a'))
         for data, count in ((tar, 2), (tar[:2048], 1), (tar[:2100], 1), (tar[:2048] + b'c' + tar[2049:], 1), (tar[:4096], 2)):
             for mode, packed in (('', bytes), ('.gz', gzip.compress), ('.xz', lzma.compress)):
-                self.put('x.deb', archive([(f'data.tar{mode}', packed(data))]))
-                rows = list(module.rows_of(os.path.join(self.files, 'x.deb')))
-                self.assertEqual([row['member'] for row in rows], ['a', 'b'][:count] + [None] * (data != tar))
-        damaged, without, other = left[1], 'a package without data', 'no archive, which a package is'
-        for content, text in ((whole[:1418], damaged), (b'!<arch>\n', without), (archive([('control.tar', tar)]), without), (tar, other),
-                              (b'', other)):
-            self.put('x.deb', content)
-            self.assertEqual([row['text'] for row in module.rows_of(os.path.join(self.files, 'x.deb'))][-1:], [text])
+                self.put(x_deb=archive((f'data.tar{mode}', packed(data))))
+                self.assertEqual(self.unpacked('member'), ['a', 'b'][:count] + [None] * (data != tar))
+        without, other = 'a package without data', 'no archive, which a package is'
+        for content, text in ((whole[:1418], DAMAGED), (b'!<arch>\n', without), (archive(('control.tar', tar)), without), (tar, other), (b'', other)):
+            self.put(x_deb=content)
+            self.assertEqual(self.unpacked('text')[-1:], [text])
         # (it may be packed in pieces)
         for packed in (gzip.compress, bz2.compress, lzma.compress):
-            self.put('x.deb', archive([('data.tar', packed(tar[:2048]) + packed(tar[2048:]))]))
-            self.assertEqual([row['member'] for row in module.rows_of(os.path.join(self.files, 'x.deb'))], ['a', 'b'])
+            self.put_data(packed(tar[:2048]) + packed(tar[2048:]))
+            self.assertEqual(self.unpacked('member'), ['a', 'b'])
 
     def test_packages_that_this_python_can_not_unpack(self):
         """As one by zstd, whose first bytes are those of RFC 8878, before Python 3.14."""
-        for content, name, since in ((b'\x28\xb5\x2f\xfd', 'zstd', ' 3.14 or later'), (b'BZh', 'bz2', '')):
-            self.put('x.deb', archive([('data.tar', content)]))
-            path = name.replace('zstd', 'compression.zstd')
+        for content, name, path, since in ((b'\x28\xb5\x2f\xfd', 'zstd', 'compression.zstd', ' 3.14 or later'), (b'BZh', 'bz2', 'bz2', '')):
+            self.put_data(content)
             with unittest.mock.patch.dict(sys.modules, {path: None}):
-                row, = module.rows_of(os.path.join(self.files, 'x.deb'))
-            said = f'it is packed by {name}, which needs Python{since} with its module {path}'
-            self.assertEqual((row['refused'], row['text']), ('LEFT_OUT', f'its data can not be unpacked: {said}'))
+                said = f'it is packed by {name}, which needs Python{since} with its module {path}'
+                self.assertEqual(self.unpacked('refused', 'text'), [(LEFT, CANT + said)])
 
     def test_folders_that_are_deep_or_can_not_be_read(self):
-        self.put('a.o', made.ALL[0].bytes)
-        self.addCleanup(subprocess.run, ['rm', '-rf', os.path.join(self.files, 'd')], check=True)
-        self.addCleanup(os.chdir, '/')
-        os.chdir(self.files)
+        self.put(a_o=SMALL)
+        self.addCleanup(subprocess.run, ['rm', '-rf', self.path('d')], check=True)
+        self.enter(self.files)
         # (in the end the path has more bytes than a path may have)
         for depth in range(2100):
             os.mkdir('d')
             os.chdir('d')
             if depth == 1200:
-                with open('deep.o', 'wb') as file:
-                    file.write(made.ALL[0].bytes)
+                write('deep.o', SMALL)
         os.chdir('/')
-        scan(self.files, '-o', self.out('r.csv'), '--workers', '0')
-        rows = self.rows('r.csv')
-        self.assertEqual([(os.path.basename(row['file']), row['refused'], row['text']) for row in rows],
+        self.assertEqual([(os.path.basename(file), *more) for file, *more in self.scanned('file', 'refused', 'text')],
                          [('a.o', '', ''), ('d', 'UNREADABLE', 'File name too long'), ('deep.o', '', '')])
 
     def test_files_without_a_size_are_not_read(self):
@@ -404,9 +401,9 @@ class Scan(Folder):
             def read(self, size=-1):
                 raise AssertionError('it is read')
 
-        self.put('empty', b'')
-        with unittest.mock.patch.object(module, 'open', Unread, create=True):
-            self.assertEqual(list(module.rows_of(os.path.join(self.files, 'empty'))), [])
+        self.put(empty=b'')
+        with patched('open', Unread, create=True):
+            self.assertEqual(list(module.rows_of(self.path('empty'))), [])
 
     def test_files_that_are_replaced(self):
         """What comes in the place of a file that was found is neither waited for nor followed, and one file is read for a row."""
@@ -415,80 +412,77 @@ class Scan(Folder):
 
         def replaced(path, *arguments, **given):
             file = open(path, *arguments, **given)
-            os.replace(os.path.join(self.files, 'b.o'), path)
+            os.replace(self.path('b.o'), path)
             return file
 
-        self.put('a.o', made.ALL[0].bytes)
-        self.put('b.o', made.ALL[3].bytes)
-        os.mkfifo(os.path.join(self.files, 'fifo'))
-        os.symlink('a.o', os.path.join(self.files, 'link'))
-        a, fifo, link = (os.path.join(self.files, name) for name in ('a.o', 'fifo', 'link'))
-        scan(link, '-o', self.out('r.csv'), '--workers', '1')
-        self.assertEqual([row['class'] for row in self.rows('r.csv')], ['ELF32'])
+        self.put(a_o=SMALL, b_o=LARGE)
+        os.mkfifo(self.path('fifo'))
+        os.symlink('a.o', self.path('link'))
+        self.assertEqual(self.scanned('class', folders=[self.path('link')], options=['--workers', '1']), ['ELF32'])
         self.addCleanup(signal.signal, signal.SIGALRM, signal.signal(signal.SIGALRM, late))
         self.addCleanup(signal.alarm, 0)
         signal.alarm(8)
-        found = module.examine([fifo, link])
-        with unittest.mock.patch.object(module, 'open', replaced, create=True):
-            found += module.examine([a])
-        self.assertEqual([[(row['class'], row['text']) for row in rows] for _, rows, _ in found],
-                         [[], [(None, os.strerror(errno.ELOOP))], [('ELF32', None)]])
+        found = module.examine([self.path('fifo'), self.path('link')])
+        with patched('open', replaced, create=True):
+            found += module.examine([self.path('a.o')])
+        self.assertEqual([columns(rows, 'class', 'text') for _, rows, _ in found], [[], [(None, os.strerror(errno.ELOOP))], [('ELF32', None)]])
 
     def test_folders_that_are_replaced(self):
         """No link is followed that comes in the place of a folder, before it is read or before its files are."""
         os.makedirs(self.out('elsewhere/below'))
-        os.mkdir(os.path.join(self.files, 'sub/below'))
+        os.mkdir(self.path('sub/below'))
         for name in ('files/a.o', 'files/sub/a.o', 'files/sub/below/b.o', 'elsewhere/below/b.o'):
-            self.put(self.out(name), made.ALL[0].bytes)
+            write(self.out(name), SMALL)
         os.symlink('files', self.out('named'))
         every = [self.out(f'named/{name}') for name in ('a.o', 'sub/a.o', 'sub/below/b.o')]
         for count, replaced, by, left in ((1, 'sub', 'elsewhere', 0), (1, 'sub/below', 'elsewhere/below', 1), (2, 'sub', 'elsewhere', 0),
                                           (3, 'sub', 'elsewhere', 0)):
             paths = module.found_below(self.out('named'), set())
             self.assertEqual(list(itertools.islice(paths, count)), every[:count])
-            os.rename(os.path.join(self.files, replaced), self.out('old'))
-            os.symlink(self.out(by), os.path.join(self.files, replaced))
+            os.rename(self.path(replaced), self.out('old'))
+            os.symlink(self.out(by), self.path(replaced))
             self.assertEqual(list(paths), every[count:count + left])
             found = module.examine([every[0], every[2]], frozenset([self.out('named')]))
-            self.assertEqual([(row['class'], row['text']) for _, rows, _ in found for row in rows],
+            self.assertEqual([row for _, rows, _ in found for row in columns(rows, 'class', 'text')],
                              [('ELF32', None), (None, os.strerror(errno.ENOTDIR))])
-            os.remove(os.path.join(self.files, replaced))
-            os.rename(self.out('old'), os.path.join(self.files, replaced))
+            os.remove(self.path(replaced))
+            os.rename(self.out('old'), self.path(replaced))
+
+    def check_resumed(self, name, sizes, *arguments, **given):
+        """Whether a report is the same again if it was written up to any of some sizes, and returns it."""
+        whole = read(self.out(name))
+        for size in sizes(len(whole)):
+            write(self.out(name), whole[:size])
+            self.scan('--resume', *arguments, name=name, **given)
+            self.assertEqual(read(self.out(name)), whole)
+        return whole
 
     def test_resumed(self):
         self.put_many(40)
-        self.put('00020.a', archive([(f'{index}.o', made.ALL[0].bytes) for index in range(5)]))
+        write(self.path('00020.a'), archive(*((f'{index}.o', SMALL) for index in range(5))))
         for name in ('r.csv', 'r.json'):
-            scan(self.files, '-o', self.out(name), '--workers', '0', '--batch', '3')
-            whole = read(self.out(name))
-            for size in (0, 50, len(whole) // 2, len(whole) // 2 + 200, len(whole) // 2 + 431, len(whole) - 1, len(whole)):
-                with open(self.out(name), 'wb') as file:
-                    file.write(whole[:size])
-                scan(self.files, '-o', self.out(name), '--workers', '0', '--resume')
-                self.assertEqual(read(self.out(name)), whole)
+            self.scan('--batch', '3', name=name)
+            whole = self.check_resumed(name, lambda length: (0, 50, length // 2, length // 2 + 200, length // 2 + 431, length - 1, length))
             # (a program for tables may have saved it with a mark at its start)
-            with open(self.out(name), 'wb') as file:
-                file.write(b'\xef\xbb\xbf' + whole)
+            write(self.out(name), b'\xef\xbb\xbf' + whole)
             # (the last file of the report is not below the second folder)
-            for folder in (self.files, os.path.join(self.files, 'sub')):
-                scan(folder, '-o', self.out(name), '--workers', '0', '--resume')
+            for folder in (self.files, self.path('sub')):
+                self.scan('--resume', name=name, folders=[folder])
                 self.assertEqual(read(self.out(name)), whole)
-        self.assertEqual([row['file'] for row in json.loads(whole)], [row['file'] for row in self.rows('r.csv')])
+        self.assertEqual(columns(self.rows('r.json'), 'file'), columns(self.rows(), 'file'))
 
     def test_a_report_that_is_replaced(self):
         """Its mode and owner stay, and so does what is beside it."""
         for name, mode in (('r.csv', 0o660), ('r.csv.new', 0o600)):
-            with open(self.out(name), 'w', encoding='utf-8') as file:
-                file.write(name)
+            write(self.out(name), name)
             os.chmod(self.out(name), mode)
             with contextlib.suppress(PermissionError):
                 os.chown(self.out(name), 1, 1)
         before = os.stat(self.out('r.csv'))
-        scan(self.files, '-o', self.out('r.csv'), '--workers', '0')
+        self.scan()
         after = os.stat(self.out('r.csv'))
         self.assertEqual((after.st_mode, after.st_uid, after.st_gid), (before.st_mode, before.st_uid, before.st_gid))
-        self.assertEqual((read(self.out('r.csv.new')), self.rows('r.csv')), (b'r.csv.new', []))
-        self.assertEqual(len(os.listdir(self.folder)), 3)
+        self.assertEqual((read(self.out('r.csv.new')), self.rows(), len(os.listdir(self.folder))), (b'r.csv.new', [], 3))
         # (until a .parquet is made, its rows are in a file of the same mode and owner)
         os.rename(self.out('r.csv'), self.out('r.parquet'))
         report = module.Report(self.out('r.parquet'), False)
@@ -498,42 +492,42 @@ class Scan(Folder):
     def test_two_scans_into_one_report(self):
         """The second one is refused, also if it comes between the moments at which the first one looks for a report and makes it."""
         self.put_many(1200)
-        scan(self.files, '-o', self.out('one.csv'), '--workers', '0')
-        taken = f'goblin-scan: {self.out("many.csv")} can not be read or written: another goblin-scan writes it\n'
+        self.scan(name='one.csv')
+        taken = f'goblin-scan: {self.out("many.csv")} can not be read or written: {TAKEN}\n'
         command = [*SCAN, self.files, '-o', self.out('many.csv'), '--workers', '1', '--batch', '8']
         for more in ([], ['--resume']):
             with subprocess.Popen(command, stderr=subprocess.DEVNULL) as running:
                 while not os.path.exists(self.out('many.csv')) or os.path.getsize(self.out('many.csv')) == 0:
                     self.assertIsNone(running.poll())
-                second = subprocess.run([*command, *more], stderr=subprocess.PIPE, universal_newlines=True)
+                second = run(*command, *more)
             self.assertEqual((second.returncode, second.stderr, running.returncode), (2, taken, 0))
-            self.assertEqual(read(self.out('many.csv')), read(self.out('one.csv')))
+            self.check_same('many.csv', 'one.csv')
             os.remove(self.out('many.csv'))
 
         def came(*_):
             with open(self.out('many.csv'), 'x', encoding='utf-8') as file:
                 file.write('another')
 
-        with unittest.mock.patch.object(module.Report, 'begin', came), contextlib.redirect_stderr(io.StringIO()) as said:
-            self.assertEqual(module.main([self.files, '-o', self.out('many.csv'), '--workers', '0']), 2)
-        self.assertEqual((said.getvalue(), read(self.out('many.csv'))), (taken, b'another'))
-        self.assertEqual(sorted(os.listdir(self.folder)), ['files', 'many.csv', 'one.csv'])
+        with unittest.mock.patch.object(module.Report, 'begin', came):
+            self.assertEqual(ended(self.files, '-o', self.out('many.csv'), '--workers', '0'), (2, taken))
+        self.assertEqual((read(self.out('many.csv')), sorted(os.listdir(self.folder))), (b'another', ['files', 'many.csv', 'one.csv']))
 
     def test_a_parquet_that_is_made(self):
         """Until all of its rows are in it, no other scan may write it."""
-        self.put('a.o', made.ALL[0].bytes)
-        with unittest.mock.patch.dict(sys.modules, StandInForPyarrow().modules()) as modules, contextlib.redirect_stderr(io.StringIO()) as said:
-            writer, statuses = modules['pyarrow.parquet'].ParquetWriter, []
+        self.put(a_o=SMALL)
+        arguments = self.files, '-o', self.out('r.parquet'), '--workers', '0'
+        with unittest.mock.patch.dict(sys.modules, StandInForPyarrow().modules()) as modules:
+            writer, found = modules['pyarrow.parquet'].ParquetWriter, []
 
-            def late(*arguments):
-                if not statuses:
-                    statuses.append(module.main([self.files, '-o', self.out('r.parquet'), '--workers', '0']))
-                return writer(*arguments)
+            def late(*given):
+                if not found:
+                    found.append(ended(*arguments))
+                return writer(*given)
 
             modules['pyarrow.parquet'].ParquetWriter = late
-            statuses.append(module.main([self.files, '-o', self.out('r.parquet'), '--workers', '0']))
-        self.assertEqual((statuses, 'another goblin-scan writes it' in said.getvalue()), ([2, 0], True))
-        self.assertEqual([row['file'] for row in json.loads(read(self.out('r.parquet')))], [self.out('files/a.o')])
+            self.assertEqual(ended(*arguments)[0], 0)
+        self.assertEqual([(status, TAKEN in said) for status, said in found], [(2, True)])
+        self.assertEqual(columns(json.loads(read(self.out('r.parquet'))), 'file'), [self.path('a.o')])
 
     def test_parquet(self):
         self.put_many(40)
@@ -544,34 +538,33 @@ class Scan(Folder):
             start = file.shoff + index * file.size(made.SHDR)
             huge[start + 4:start + 8], huge[start + 8:start + 16] = (8).to_bytes(4, 'little'), (2).to_bytes(8, 'little')
             huge[start + 32:start + 40] = b'\xff' * 8
-        self.put('huge', huge)
-        scan(self.files, '-o', self.out('r.json'), '--workers', '0')
+        self.put(huge=huge)
+        self.scan(name='r.json')
         # (which is another report, and stays)
-        scan(self.out('files/sub'), '-o', self.out('r.parquet.json'), '--workers', '0')
-        with unittest.mock.patch.dict(sys.modules, StandInForPyarrow().modules()), unittest.mock.patch.object(module, 'GROUP', 7):
+        self.scan(name='r.parquet.json', folders=[self.path('sub')])
+        path, most = self.out('r.parquet'), (1 << 64) - 1
+        with unittest.mock.patch.dict(sys.modules, StandInForPyarrow().modules()), patched('GROUP', 7):
             for resume in ([], ['--resume']):
-                scan(self.files, '-o', self.out('r.parquet'), '--workers', '0', *resume)
+                self.scan(*resume, name='r.parquet')
                 self.assertEqual((sorted(os.listdir(self.folder)), read(self.out('r.parquet.json'))),
                                  (['files', 'r.json', 'r.parquet', 'r.parquet.json'], b'[]\n'))
-                rows = json.loads(read(self.out('r.parquet')))
-                self.assertEqual((rows[-1]['file'], rows[-1]['zeros']), (os.path.join(self.files, 'huge'), (1 << 64) - 1))
-                expected = json.loads(read(self.out('r.json')))
-                self.assertEqual((rows[:-1], expected[-1]['zeros']), ([texts(row) for row in expected[:-1]], 2 * ((1 << 64) - 1)))
-            # (files of a report with other columns, as of an older version, are examined again)
-            with open(self.out('r.parquet'), 'w', encoding='utf-8') as file:
-                json.dump([{name: value for name, value in row.items() if name != 'unknown'} for row in rows], file)
-            scan(self.files, '-o', self.out('r.parquet'), '--workers', '0', '--resume')
-            self.assertEqual(json.loads(read(self.out('r.parquet'))), rows)
-            # (and so are those of one that can't be read)
-            with open(self.out('r.parquet'), 'w', encoding='utf-8') as file:
-                file.write('PAR1')
-            scan(self.files, '-o', self.out('r.parquet'), '--workers', '0', '--resume')
-            self.assertEqual(json.loads(read(self.out('r.parquet'))), rows)
+                rows, expected = json.loads(read(path)), self.rows('r.json')
+                self.assertEqual((rows[-1]['file'], rows[-1]['zeros']), (self.path('huge'), most))
+                self.assertEqual((rows[:-1], expected[-1]['zeros']), ([texts(row) for row in expected[:-1]], 2 * most))
+            # (files of a report with other columns, as of an older version, are examined again, and so are those of one that can't be read)
+            older = [{name: value for name, value in row.items() if name != 'unknown'} for row in rows]
+            for content in (json.dumps(older), 'PAR1'):
+                write(path, content)
+                self.scan('--resume', name='r.parquet')
+                self.assertEqual(json.loads(read(path)), rows)
         # (a module that is None can not be found)
         for modules in ({'pyarrow': None}, {'pyarrow': StandInForPyarrow(), 'pyarrow.parquet': None}):
-            with unittest.mock.patch.dict(sys.modules, modules), contextlib.redirect_stderr(io.StringIO()) as said:
-                self.assertRaises(SystemExit, module.main, [self.files, '-o', self.out('s.parquet')])
-            self.assertIn('pyarrow is not installed', said.getvalue())
+            with unittest.mock.patch.dict(sys.modules, modules):
+                self.check_refused(self.files, '-o', self.out('s.parquet'), why='pyarrow is not installed')
+
+    def check_refused(self, *arguments, why):
+        status, said = ended(*arguments)
+        self.assertEqual((status, why in said), (2, True), said)
 
     def test_sizes_of_batches(self):
         """The first ones are small, so that a few files are for all workers."""
@@ -579,40 +572,35 @@ class Scan(Folder):
         for most, expected in (('256', [1] * 16 + [2] * 16 + [3] * 4), ('2', [1] * 16 + [2] * 22)):
             sizes = []
 
-            def run(batches):
+            def examine(batches):
                 for batch in batches:
                     sizes.append(len(batch))
                     yield batch, module.examine(batch)
 
-            with unittest.mock.patch.object(module, 'runner_of', return_value=run):
-                scan(self.files, '-o', self.out('r.csv'), '--batch', most)
+            with patched('runner_of', return_value=examine):
+                self.scan('--batch', most)
             self.assertEqual(sizes, expected)
 
     def test_folders_that_are_named_twice(self):
         """Each file has one row, also of folders and files that are below others, or that a link names."""
-        for name in ('a.o', 'b.o', 'sub/c.o'):
-            self.put(name, made.ALL[0].bytes)
-        os.symlink('sub', os.path.join(self.files, 'link'))
-        os.symlink('b.o', os.path.join(self.files, 'b'))
-        os.chdir(self.files)
-        self.addCleanup(os.chdir, '/')
+        self.put(a_o=SMALL, b_o=SMALL, sub__c_o=SMALL)
+        os.symlink('sub', self.path('link'))
+        os.symlink('b.o', self.path('b'))
+        self.enter(self.files)
         for folders, expected in ((['.', '.'], ['./a.o', './b.o', './sub/c.o']), (['sub', './sub/', 'sub/c.o'], ['sub/c.o']),
                                   (['.', 'sub', 'b.o'], ['./a.o', 'sub/c.o', 'b.o']), (['link', self.files], ['link/c.o', 'F/a.o', 'F/b.o']),
                                   (['b', '../files/'], ['b', '../files/a.o', '../files/sub/c.o'])):
-            scan(*folders, '-o', self.out('r.csv'), '--workers', '0')
-            self.assertEqual([row['file'].replace(self.files, 'F') for row in self.rows('r.csv')], expected)
+            self.assertEqual([file.replace(self.files, 'F') for file in self.scanned('file', folders=folders)], expected)
 
     def test_lists(self):
         """In a .json they are lists. Those of an older version, which are texts, are examined again."""
-        self.put('a', linked(needed=[b'a b', b'\1'], soname=b'', interpreter=b''))
-        self.put('b', b'\x7fELF')
-        scan(self.files, '-o', self.out('r.json'), '--workers', '0')
-        rows = json.loads(read(self.out('r.json')))
-        self.assertEqual([(row['needed'], row['numbers'], row['compilers']) for row in rows], [(['a b', '\\x01'], None, []), (None, [], None)])
-        with open(self.out('r.json'), 'w', encoding='utf-8') as file:
-            file.write('[\n' + json.dumps({**rows[0], 'needed': 'a b \\x01'}) + ',\n' + json.dumps(rows[1]) + '\n]\n')
-        scan(self.files, '-o', self.out('r.json'), '--workers', '0', '--resume')
-        self.assertEqual(sorted(json.loads(read(self.out('r.json'))), key=lambda row: row['file']), rows)
+        self.put(a=linked(needed=[b'a b', b'\1'], soname=b'', interpreter=b''), b=b'\x7fELF')
+        self.scan(name='r.json')
+        rows = self.rows('r.json')
+        self.assertEqual(columns(rows, 'needed', 'numbers', 'compilers'), [(['a b', '\\x01'], None, []), (None, [], None)])
+        write(self.out('r.json'), '[\n' + json.dumps({**rows[0], 'needed': 'a b \\x01'}) + ',\n' + json.dumps(rows[1]) + '\n]\n')
+        self.scan('--resume', name='r.json')
+        self.assertEqual(sorted(self.rows('r.json'), key=lambda row: row['file']), rows)
 
     def test_folders_that_may_not_be_entered(self):
         os.symlink('loop', self.out('loop'))
@@ -623,141 +611,112 @@ class Scan(Folder):
         if os.geteuid() != 65534:
             os.chmod(self.folder, 0)
             self.addCleanup(os.chmod, self.folder, 0o700)
-        with contextlib.redirect_stderr(io.StringIO()) as said:
-            self.assertRaises(SystemExit, module.main, [self.files, '-o', '/tmp/r.csv'])
-        self.assertIn(f'{self.files} can not be read: {os.strerror(errno.EACCES)}\n', said.getvalue())
+        self.check_refused(self.files, '-o', '/tmp/r.csv', why=f'{self.files} can not be read: {os.strerror(errno.EACCES)}\n')
         os.seteuid(os.getuid())
         os.chmod(self.folder, 0o700)
-        with contextlib.redirect_stderr(io.StringIO()) as said:
-            self.assertRaises(SystemExit, module.main, [self.out('loop'), '-o', self.out('r.csv')])
-        self.assertIn(f'{self.out("loop")} can not be read: {os.strerror(errno.ELOOP)}\n', said.getvalue())
+        why = f'{self.out("loop")} can not be read: {os.strerror(errno.ELOOP)}\n'
+        self.check_refused(self.out('loop'), '-o', self.out('r.csv'), why=why)
 
     def test_a_missing_package(self):
         """It is the one that is missing, which Dask may need, and there is no report to go on with."""
         os.makedirs(self.out('path/distributed'))
-        with open(self.out('path/distributed/__init__.py'), 'w', encoding='utf-8') as file:
-            file.write('import missing_one')
-        found = subprocess.run([*SCAN, self.files, '-o', self.out('r.csv'), '--scheduler', 'x:1'], stderr=subprocess.PIPE, universal_newlines=True,
-                               env={**os.environ, 'PYTHONPATH': os.pathsep.join([self.out('path'), *filter(None, sys.path)])})
+        write(self.out('path/distributed/__init__.py'), 'import missing_one')
+        found = run(*SCAN, self.files, '-o', self.out('r.csv'), '--scheduler', 'x:1',
+                    env={'PYTHONPATH': os.pathsep.join([self.out('path'), *filter(None, sys.path)])})
         self.assertEqual((found.returncode, found.stderr), (2, 'goblin-scan: missing_one is not installed, which --scheduler needs\n'))
 
     def test_progress(self):
         """On a terminal the number of files is shown from the first batch on."""
-        with contextlib.redirect_stderr(io.StringIO()) as said, unittest.mock.patch.object(module, 'is_shown', return_value=True):
+        with contextlib.redirect_stderr(io.StringIO()) as said, patched('is_shown', return_value=True):
             module.report_on(iter([([str(index)] * count, [('a', [], 0.5)] * count) for index, count in enumerate((3, 2997, 38000))]),
                              module.Report(self.out('r.csv'), False))
         rates = ''.join(rf'\r{count} files, \d+ a second *' for count in (3, 3000, 41000))
         self.assertRegex(said.getvalue(), rf'^{rates}\n41000 files, 0 refused')
 
     def test_what_is_not_there(self):
-        with contextlib.redirect_stderr(io.StringIO()) as said:
-            self.assertRaises(SystemExit, module.main, [self.files, self.out('absent'), '-o', self.out('r.csv')])
-        self.assertIn(f'{self.out("absent")} is not there', said.getvalue())
+        self.check_refused(self.files, self.out('absent'), '-o', self.out('r.csv'), why=f'{self.out("absent")} is not there')
         for option in ('--batch', '--workers'):
-            with contextlib.redirect_stderr(io.StringIO()) as said:
-                self.assertRaises(SystemExit, module.main, [self.files, '-o', self.out('r.csv'), option, str(1 << 63)])
-            self.assertIn(f'{1 << 63} is not a number from ', said.getvalue())
-        self.put('a.o', made.ALL[0].bytes)
-        scan(self.out('files/a.o'), '-o', self.out('r.csv'), '--workers', '0')
-        self.assertEqual([row['file'] for row in self.rows('r.csv')], [self.out('files/a.o')])
+            self.check_refused(self.files, '-o', self.out('r.csv'), option, str(1 << 63), why=f'{1 << 63} is not a number from ')
+        self.put(a_o=SMALL)
+        self.assertEqual(self.scanned('file', folders=[self.path('a.o')]), [self.path('a.o')])
         with unittest.mock.patch.object(sys, 'stderr', None), contextlib.redirect_stdout(io.StringIO()):
-            self.assertEqual(module.main([self.out('files/a.o'), '-o', self.out('s.csv'), '--workers', '0']), 0)
-        self.assertEqual(read(self.out('s.csv')), read(self.out('r.csv')))
+            self.assertEqual(module.main([self.path('a.o'), '-o', self.out('s.csv'), '--workers', '0']), 0)
         # (and a reader of what it prints may have left)
         ends = os.pipe()
         os.close(ends[0])
         for name, status in (('t.csv', 0), ('absent/t.csv', 2)):
-            ended = subprocess.run([*SCAN, self.out('files/a.o'), '-o', self.out(name), '--workers', '0'], stderr=ends[1])
-            self.assertEqual(ended.returncode, status)
+            command = [*SCAN, self.path('a.o'), '-o', self.out(name), '--workers', '0']
+            self.assertEqual(subprocess.run(command, stderr=ends[1]).returncode, status)
         os.close(ends[1])
-        self.assertEqual(read(self.out('t.csv')), read(self.out('r.csv')))
+        self.check_same('s.csv', 'r.csv')
+        self.check_same('t.csv', 'r.csv')
 
     def test_hostile_files(self):
         # sparse files of 256 MiB: with 4 million section headers, with notes without an end, and with a path as long
         size = 1 << 28
         file = made.ALL[2]
-        for name, header, more in [
-                ('sections', {'e_shoff': 4096, 'e_shnum': 0}, [(4096 + 32, (size - 4096) // 64)]),
-                ('notes', {'e_shoff': 0, 'e_shnum': 0, 'e_phnum': 1}, [(file.phoff, 4), (file.phoff + 8, 4096), (file.phoff + 32, size - 4096)]),
-                ('interpreter', {'e_shoff': 0, 'e_shnum': 0, 'e_phnum': 1}, [(file.phoff, 3), (file.phoff + 8, 0), (file.phoff + 32, size)])]:
+        for name, shoff, phnum, more in [('sections', 4096, 0, [(4096 + 32, (size - 4096) // 64)]),
+                                         ('notes', 0, 1, [(file.phoff, 4), (file.phoff + 8, 4096), (file.phoff + 32, size - 4096)]),
+                                         ('interpreter', 0, 1, [(file.phoff, 3), (file.phoff + 8, 0), (file.phoff + 32, size)])]:
             content = bytearray(file.bytes.ljust(8192, b'\0'))
-            content[40:48] = header['e_shoff'].to_bytes(8, 'little')
-            content[60:62] = header['e_shnum'].to_bytes(2, 'little')
-            content[56:58] = header.get('e_phnum', 0).to_bytes(2, 'little')
+            content[40:48], content[56:58], content[60:62] = shoff.to_bytes(8, 'little'), phnum.to_bytes(2, 'little'), bytes(2)
             for offset, number in more:
                 content[offset:offset + 8] = number.to_bytes(8, 'little')
-            self.put(name, content)
-            os.truncate(os.path.join(self.files, name), size)
+            self.put(**{name: content})
+            os.truncate(self.path(name), size)
         # (members whose names all begin in one table of 4 MiB)
-        names = archive([('//', b'\n' * (1 << 22)), *[('/0', b'')] * 5000, ('x.o', file.bytes)])
-        self.put('x.a', names.replace(b'/0/', b'/0 ').replace(b'///', b'// '))
+        self.put(x_a=archive(('//', b'\n' * (1 << 22)), *[('/0', b'')] * 5000, ('x.o', file.bytes)))
         # (and names as long as the sparse files: all of such a table, and one before a member)
         for name, start in (('y.a', '//'), ('z.a', f'#1/{size}')):
-            with open(os.path.join(self.files, name), 'wb') as sparse:
+            with open(self.path(name), 'wb') as sparse:
                 sparse.write(b'!<arch>\n' + f'{start:48}{size:<10}`\n'.encode())
                 sparse.seek(size, os.SEEK_CUR)
-                sparse.write(archive([('x.o', file.bytes)])[8:])
-        script = 'import resource, runpy, sys; resource.setrlimit(resource.RLIMIT_DATA, (120 << 20, 120 << 20)); ' \
-                 'sys.argv = sys.argv[1:]; runpy.run_module("goblin_elf.scan", run_name="__main__")'
-        subprocess.run([sys.executable, '-c', script, 'scan', self.files, '-o', self.out('r.csv'), '--workers', '0'], check=True,
-                       stderr=subprocess.PIPE, timeout=120)
-        self.assertEqual([os.path.basename(row['file']) + row['member'] for row in self.rows('r.csv')],
+                sparse.write(archive(('x.o', file.bytes))[8:])
+        limit = LIMITED.format('(resource.RLIMIT_DATA, (120 << 20, 120 << 20))')
+        run(sys.executable, '-c', limit, 'scan', self.files, '-o', self.out('r.csv'), '--workers', '0', check=True, timeout=120)
+        self.assertEqual([os.path.basename(row['file']) + row['member'] for row in self.rows()],
                          ['interpreter', 'notes', 'sections', 'x.ax.o', 'y.ax.o', 'z.ax.o'])
-        self.assertEqual(self.rows('r.csv')[2]['sections'], str((size - 4096) // 64))
+        self.assertEqual(self.rows()[2]['sections'], str((size - 4096) // 64))
 
     def test_names_of_any_bytes(self):
         names = b'caf\xe9.so', b'\xe2\x80\xae\x1b[1m\\', '\u00e9\u0085'.encode()
-        self.put('\udce9', linked(needed=names, soname=b'lib\xff\n', interpreter=b'/ld\xe9'))
         # (of names that have more than 65,536 characters together none is in the row)
-        self.put('b', linked(needed=[b'\1' * 4000] * 16, soname=b'', interpreter=b''))
-        self.put('c', linked(needed=[b'\1' * 4000] * 17, soname=b'', interpreter=b''))
-        self.put('d', made.ALL[0].bytes)
+        few, many = ([b'\1' * 4000] * count for count in (16, 17))
+        self.put(**{'\udce9': linked(needed=names, soname=b'lib\xff\n', interpreter=b'/ld\xe9')}, b=linked(few, b'', b''), c=linked(many, b'', b''),
+                 d=SMALL)
         for name in ('r.csv', 'r.json'):
-            scan(self.files, '-o', self.out(name), '--workers', '0')
-            whole = read(self.out(name))
-            for size in (len(whole), len(whole) // 2, 0):
-                with open(self.out(name), 'wb') as file:
-                    file.write(whole[:size])
-                scan(self.files, '-o', self.out(name), '--workers', '0', '--resume')
-                self.assertEqual(read(self.out(name)), whole)
-            rows = {row['file'][len(self.files) + 1:]: row for row in (self.rows(name) if name == 'r.csv' else map(texts, json.loads(whole)))}
+            self.scan(name=name)
+            self.check_resumed(name, lambda length: (length, length // 2, 0))
+            rows = {row['file'][len(self.files) + 1:]: row for row in map(texts, self.rows(name))}
             row = rows['\\xe9']
             self.assertEqual((row['needed'], row['soname'], row['interpreter']),
                              ('caf\\xe9.so \\xe2\\x80\\xae\\x1b[1m\\x5c \u00e9\\xc2\\x85', 'lib\\xff\\x0a', '/ld\\xe9'))
             self.assertEqual((rows['b']['needed'], rows['d']['class']), (' '.join(['\\x01' * 4000] * 16), 'ELF32'))
             self.assertEqual((rows['c']['needed'] or '', rows['c']['unknown']), ('', f"needed {rows['b']['unknown']}"))
         # (what is there and no report is no row of it)
-        for junk in (b'\0\xff"\n,,\n', b'[\n{"file": 1},\n7\n', b'[' * 100000, json.dumps({**dict.fromkeys(module.COLUMNS), 'file': []}).encode()):
-            for name in ('r.csv', 'r.json'):
-                with open(self.out('junk' + name[1:]), 'wb') as file:
-                    file.write(junk)
-                scan(self.files, '-o', self.out('junk' + name[1:]), '--workers', '0', '--resume')
-                self.assertEqual(read(self.out('junk' + name[1:])), read(self.out(name)))
+        for junk in (b'\0\xff"\n,,\n', b'[\n{"file": 1},\n7\n', b'[' * 100000, json.dumps({**dict.fromkeys(module.COLUMNS), 'file': []})):
+            for end in ('.csv', '.json'):
+                write(self.out('junk' + end), junk)
+                self.scan('--resume', name='junk' + end)
+                self.check_same('junk' + end, 'r' + end)
 
     def test_formulas(self):
         for index, start in enumerate(('=', '+', '-', '@', ' =', '"=', "'", '\uff1d', '\t=')):
             bad = f'{start}1+1'.encode()
-            self.put(f'{index}', linked(needed=[bad + b';' + bad, b';;"' + bad], soname=bad, interpreter=b'/a;' + bad))
-        self.put(';=1', made.ALL[0].bytes)
-        self.put(";'=1", made.ALL[0].bytes)
-        os.chdir(self.files)
-        self.addCleanup(os.chdir, '/')
+            self.put(**{f'{index}': linked(needed=[bad + b';' + bad, b';;"' + bad], soname=bad, interpreter=b'/a;' + bad)})
+        self.put(**{';=1': SMALL, ";'=1": SMALL})
+        self.enter(self.files)
         os.rename('0', '=0')
-        arguments = ['=0', *'12345678', '.', '-o', self.out('r.csv'), '--workers', '0']
-        scan(*arguments)
-        whole = read(self.out('r.csv'))
+        folders = ['=0', *'12345678', '.']
+        self.scan(folders=folders)
         for separator in ',;':
             with open(self.out('r.csv'), newline='', encoding='utf-8') as file:
                 for cells in csv.reader(file, delimiter=separator):
                     self.assertFalse([cell for cell in cells if cell.strip(' "')[:1] in tuple('=+-@\uff1d')], cells)
-        rows = self.rows('r.csv')
+        rows = self.rows()
         self.assertEqual([rows[0][column] for column in ('file', 'soname', 'interpreter')], ["'=0", "'=1+1", "/a;'=1+1"])
-        self.assertEqual([row['file'] for row in rows[-2:]], ["./;''=1", "./;'=1"])
-        for size in range(0, len(whole), 97):
-            with open(self.out('r.csv'), 'wb') as file:
-                file.write(whole[:size])
-            scan(*arguments, '--resume')
-            self.assertEqual(read(self.out('r.csv')), whole)
+        self.assertEqual(columns(rows[-2:], 'file'), ["./;''=1", "./;'=1"])
+        self.check_resumed('r.csv', lambda length: range(0, length, 97), folders=folders)
 
 
 class Workers(Folder):
@@ -769,12 +728,9 @@ class Workers(Folder):
         # (a test that runs in the background ignores SIGINT, and so would what it starts)
         running = subprocess.Popen(command, stderr=subprocess.PIPE, universal_newlines=True, start_new_session=True,
                                    preexec_fn=lambda: signal.signal(signal.SIGINT, signal.SIG_DFL), **given)
-        self.addCleanup(self.end, running)
+        self.addCleanup(running.communicate)
+        self.addCleanup(running.kill)
         return running
-
-    def end(self, running):
-        running.kill()
-        running.communicate()
 
     def check_ended(self, running, status=0):
         said = running.communicate(timeout=120)[1]
@@ -782,17 +738,16 @@ class Workers(Folder):
         self.assertNotIn('Traceback', said)
         return said
 
-    def check_killed(self, kill):
-        """Lets a function kill workers of a scan until it ends. The report stays the same."""
-        running = self.start()
-        while running.poll() is None:
-            kill(running)
-        self.check_ended(running)
-        self.assertEqual(read(self.out('many.csv')), read(self.out('one.csv')))
+    def check_run(self, *command, **more):
+        """Runs a command in the folder that scans a file by a worker."""
+        self.put(a_o=SMALL)
+        run(*command, check=True, cwd=self.folder, **more)
+        self.assertEqual(columns(self.rows(), 'file'), ['files/a.o'])
 
     def test_killed_workers(self):
+        """Whenever some are killed, the report stays the same."""
         self.put_many(1200)
-        scan(self.files, '-o', self.out('one.csv'), '--workers', '0')
+        self.scan(name='one.csv')
         killed = set()
 
         def kill_first(running):
@@ -824,7 +779,11 @@ class Workers(Folder):
             for _ in range(20):
                 with contextlib.suppress(FileNotFoundError):
                     os.remove(self.out('many.csv'))
-                self.check_killed(kill)
+                running = self.start()
+                while running.poll() is None:
+                    kill(running)
+                self.check_ended(running)
+                self.check_same('many.csv', 'one.csv')
                 if killed:
                     break
             self.assertTrue(killed)
@@ -835,35 +794,29 @@ class Workers(Folder):
         self.assertEqual(found, [(['1'], ['1']), (['end'], None), (['2'], ['2']), (['3'], ['3']), (['end'], None), (['4', '5'], ['4', '5'])])
         self.assertRaisesRegex(workers.Stopped, '16 workers ended as they started, the last one with exit code 7',
                                list, workers.Workers(EndsWorkers(), 2, 1 << 30).results(iter(batches)))
-        self.put('a', made.ALL[0].bytes)
+        self.put(a=SMALL)
         report = module.Report(self.out('r.csv'), False)
         with contextlib.redirect_stderr(io.StringIO()) as said:
-            module.report_on(iter([(['a'], module.examine([os.path.join(self.files, 'a')])), (['b'], None)]), report)
-        self.assertEqual([row['refused'] for row in self.rows('r.csv')], ['', 'WORKER_LOST'])
+            module.report_on(iter([(['a'], module.examine([self.path('a')])), (['b'], None)]), report)
+        self.assertEqual(columns(self.rows(), 'refused'), ['', 'WORKER_LOST'])
         self.assertIn('2 files, 1 refused', said.getvalue())
 
     def test_a_folder_that_can_not_be_entered(self):
         """As one that is removed, and one of another user."""
-        self.put('a.o', made.ALL[0].bytes)
-        self.addCleanup(os.chdir, '/')
+        self.put(a_o=SMALL)
         os.mkdir(self.out('gone'))
-        os.chdir(self.out('gone'))
+        self.enter(self.out('gone'))
         os.rmdir(self.out('gone'))
-        with contextlib.redirect_stderr(io.StringIO()) as said:
-            self.assertRaises(SystemExit, module.main, ['.', '-o', self.out('r.csv'), '--workers', '1'])
-        self.assertIn('the current folder can not be entered', said.getvalue())
-        scan(self.files, '-o', self.out('r.csv'), '--workers', '1')
-        self.assertEqual([row['file'] for row in self.rows('r.csv')], [self.out('files/a.o')])
+        status, said = ended('.', '-o', self.out('r.csv'), '--workers', '1')
+        self.assertEqual((status, 'the current folder can not be entered' in said), (2, True))
+        self.assertEqual(self.scanned('file', options=['--workers', '1']), [self.path('a.o')])
 
     def test_threads(self):
         """The current folder, which is that of all threads, stays the same."""
-        self.put('a.o', made.ALL[0].bytes)
-        self.addCleanup(os.chdir, '/')
-        os.chdir(self.folder)
-        threads = [threading.Thread(target=module.main, args=(['files', '-o', self.out(f'{number}.csv'), '--workers', '2'],)) for number in '01']
+        self.put(a_o=SMALL)
+        self.enter(self.folder)
         with contextlib.redirect_stderr(io.StringIO()):
-            for thread in threads:
-                thread.start()
+            threads = started(lambda number: module.main(['files', '-o', self.out(f'{number}.csv'), '--workers', '2']), (0, 1))
             seen = {os.getcwd() for _ in iter(lambda: any(thread.is_alive() for thread in threads), False)}
         self.assertEqual((seen, len(self.rows('0.csv'))), ({os.path.realpath(self.folder)}, 1))
         self.assertEqual(self.rows('0.csv'), self.rows('1.csv'))
@@ -877,14 +830,7 @@ class Workers(Folder):
             time.sleep(0.002)
             seen.append((*batch, resource.getrlimit(resource.RLIMIT_DATA)[0]))
 
-        def examine(memory):
-            for _ in workers.in_turn(look, memory << 30, iter([[str(memory)]] * 20)):
-                pass
-
-        threads = [threading.Thread(target=examine, args=(memory,)) for memory in (1, 2)]
-        for thread in threads:
-            thread.start()
-        for thread in threads:
+        for thread in started(lambda memory: list(workers.in_turn(look, memory << 30, iter([[str(memory)]] * 20))), (1, 2)):
             thread.join()
         self.assertEqual(resource.getrlimit(resource.RLIMIT_DATA), before)
         # (the shell may have a lower limit; that which is none is -1)
@@ -893,49 +839,37 @@ class Workers(Folder):
 
     def test_flags_of_python(self):
         """Workers have the same ones, and so take names for the same bytes."""
-        self.put('\u00e9', made.ALL[0].bytes)
-        subprocess.run([sys.executable, '-X', 'utf8', *SCAN[1:], 'files', '-o', 'r.csv', '--workers', '1'], check=True, cwd=self.folder,
-                       stderr=subprocess.PIPE, env={**os.environ, 'LC_ALL': 'C', 'PYTHONUTF8': '0', 'PYTHONCOERCECLOCALE': '0'})
-        self.assertEqual([(row['file'], row['class']) for row in self.rows('r.csv')], [('files/\u00e9', 'ELF32')])
+        self.put(**{'\u00e9': SMALL})
+        run(sys.executable, '-X', 'utf8', *SCAN[1:], 'files', '-o', 'r.csv', '--workers', '1', check=True, cwd=self.folder, env=OTHER_LOCALE)
+        self.assertEqual(columns(self.rows(), 'file', 'class'), [('files/\u00e9', 'ELF32')])
 
     def test_a_package_of_the_current_folder(self):
         """Workers import the one that a script finds by a path that does not start with /, though they start elsewhere."""
-        self.put('a.o', made.ALL[0].bytes)
         os.symlink(os.path.dirname(os.path.dirname(module.__file__)), self.out('own'))
         script = "import sys; sys.path.insert(0, 'own'); from goblin_elf import scan; " \
                  "sys.exit(scan.main(['files', '-o', 'r.csv', '--workers', '1']))"
-        subprocess.run([sys.executable, '-c', script], check=True, cwd=self.folder, stderr=subprocess.PIPE,
-                       env={name: value for name, value in os.environ.items() if name != 'PYTHONPATH'})
-        self.assertEqual([row['file'] for row in self.rows('r.csv')], ['files/a.o'])
+        self.check_run(sys.executable, '-c', script, env={'PYTHONPATH': ''})
 
     def test_a_library_of_the_current_folder(self):
         """Workers load the same one, though they start elsewhere."""
-        self.put('a.o', made.ALL[0].bytes)
         shutil.copy(LIBRARY._name, self.out('own.so'))
-        subprocess.run([*SCAN, 'files', '-o', 'r.csv', '--workers', '1'], check=True, cwd=self.folder, stderr=subprocess.PIPE,
-                       env={**os.environ, 'GOBLIN_ELF_LIBRARY': './own.so'})
-        self.assertEqual([row['file'] for row in self.rows('r.csv')], ['files/a.o'])
+        self.check_run(*SCAN, 'files', '-o', 'r.csv', '--workers', '1', env={'GOBLIN_ELF_LIBRARY': './own.so'})
 
     def test_nothing_of_the_folder_is_run(self):
         """The command of the wheel takes no modules of the current folder, and neither do its workers."""
-        self.put('a.o', made.ALL[0].bytes)
-        self.put('multiprocessing.py', f'open({self.out("run")!r}, "w")'.encode())
-        with open(self.out('goblin-scan'), 'w', encoding='utf-8') as file:
-            file.write("import sys\nfrom goblin_elf.scan import main\nif __name__ == '__main__':\n    sys.exit(main())\n")
-        subprocess.run([sys.executable, self.out('goblin-scan'), '.', '-o', '../r.csv', '--workers', '1'], check=True, cwd=self.files,
-                       stderr=subprocess.PIPE)
-        self.assertEqual(([row['file'] for row in self.rows('r.csv')], os.path.exists(self.out('run'))), (['./a.o'], False))
+        self.put(a_o=SMALL, multiprocessing_py=f'open({self.out("run")!r}, "w")')
+        write(self.out('goblin-scan'), "import sys\nfrom goblin_elf.scan import main\nif __name__ == '__main__':\n    sys.exit(main())\n")
+        run(sys.executable, self.out('goblin-scan'), '.', '-o', '../r.csv', '--workers', '1', check=True, cwd=self.files)
+        self.assertEqual((columns(self.rows(), 'file'), os.path.exists(self.out('run'))), (['./a.o'], False))
 
     def test_little_memory(self):
         (_, found), = workers.Workers(take_memory, 1, 256 << 20).results(iter([['128', '512']]))
         self.assertEqual(found, ['128', 'MemoryError'])
         # (a batch whose results do not fit into a message is divided, and no worker prints anything)
-        script = 'import test_scan, sys; from goblin_elf import workers; ' \
-                 'print([len(*found) for _, found in workers.Workers(test_scan.zeros, 1, 256 << 20).results(iter([["60", "61"]]))])'
-        said = subprocess.run([sys.executable, '-c', script], stdout=subprocess.PIPE, stderr=subprocess.STDOUT, universal_newlines=True,
-                              env={**os.environ, 'PYTHONPATH': os.pathsep.join(filter(None, sys.path))}).stdout
-        self.assertEqual(said.splitlines()[-1], str([60 << 20, 61 << 20]))
-        self.assertNotIn('Traceback', said)
+        script = 'import test_scan, sys; from goblin_elf import _workers; ' \
+                 'print([len(*found) for _, found in _workers.Workers(test_scan.zeros, 1, 256 << 20).results(iter([["60", "61"]]))])'
+        ran = run(sys.executable, '-c', script, stdout=subprocess.PIPE, env=PATHS)
+        self.assertEqual((ran.stdout.splitlines()[-1], 'Traceback' in ran.stdout + ran.stderr), (str([60 << 20, 61 << 20]), False))
 
     def test_results_that_wait(self):
         """Those that come before the one that is next are few and small, since they are held."""
@@ -960,10 +894,9 @@ class Workers(Folder):
 
     def test_interrupted(self):
         self.put_many(1200)
-        scan(self.files, '-o', self.out('one.csv'), '--workers', '0')
-        for begin in (lambda running: workers_of(running), lambda running: os.path.getsize(self.out('many.csv')) > 2000):
-            with open(self.out('many.csv'), 'w'):
-                pass
+        self.scan(name='one.csv')
+        for begin in (workers_of, lambda running: os.path.getsize(self.out('many.csv')) > 2000):
+            write(self.out('many.csv'), b'')
             # (in this mode Python prints which files nobody closed)
             running = self.start(env={**os.environ, 'PYTHONDEVMODE': '1'})
             while not begin(running):
@@ -972,17 +905,16 @@ class Workers(Folder):
             os.killpg(running.pid, signal.SIGINT)
             self.assertEqual(self.check_ended(running, 130), f'goblin-scan: interrupted; --resume goes on with {self.out("many.csv")}\n')
             self.assertFalse([process for process in processes if os.path.exists(f'/proc/{process}/fd')])
-            scan(self.files, '-o', self.out('many.csv'), '--workers', '0', '--resume')
-            self.assertEqual(read(self.out('many.csv')), read(self.out('one.csv')))
+            self.scan('--resume', name='many.csv')
+            self.check_same('many.csv', 'one.csv')
 
     def test_workers_end_with_the_scan(self):
         """Whatever ends it, and though they examine a file."""
         for number in (signal.SIGTERM, signal.SIGKILL):
             begun = self.out(f'begun by {number}')
-            script = 'import test_scan; from goblin_elf import workers; ' \
-                     f'list(workers.Workers(test_scan.wait, 1, 1 << 30).results(iter([[{begun!r}]])))'
-            running = subprocess.Popen([sys.executable, '-c', script], stderr=subprocess.PIPE,
-                                       env={**os.environ, 'PYTHONPATH': os.pathsep.join(filter(None, sys.path))})
+            script = 'import test_scan; from goblin_elf import _workers; ' \
+                     f'list(_workers.Workers(test_scan.wait, 1, 1 << 30).results(iter([[{begun!r}]])))'
+            running = subprocess.Popen([sys.executable, '-c', script], stderr=subprocess.PIPE, env={**os.environ, **PATHS})
             self.addCleanup(running.stderr.close)
             self.addCleanup(running.kill)
             while not os.path.exists(begun):
@@ -995,28 +927,23 @@ class Workers(Folder):
 
     def test_reports_that_can_not_be_written(self):
         self.put_many(100)
-        for arguments in ([], ['--resume']):
-            running = self.start('-o', self.out('absent/r.csv'), *arguments)
-            self.assertEqual(self.check_ended(running, 2),
-                             f'goblin-scan: {self.out("absent/r.csv")} can not be read or written: No such file or directory\n')
-        limit = 'import resource, runpy, sys; resource.setrlimit(resource.RLIMIT_FSIZE, (9999, 9999)); sys.argv = sys.argv[1:]; ' \
-                'runpy.run_module("goblin_elf.scan", run_name="__main__")'
-        for number in ('0', '2'):
-            command = [sys.executable, '-c', limit, 'scan', self.files, '-o', self.out('r.csv'), '--workers', number]
-            ended = subprocess.run(command, stderr=subprocess.PIPE, universal_newlines=True)
-            self.assertEqual((ended.returncode, ended.stderr),
-                             (2, f'goblin-scan: {self.out("r.csv")} can not be read or written: File too large\n'))
         os.mkdir(self.out('folder.csv'))
         os.mkfifo(self.out('fifo'))
         os.symlink('fifo', self.out('fifo.csv'))
-        for path, arguments in (('fifo.csv', []), ('folder.csv', []), ('fifo.csv', ['--resume'])):
-            running = self.start('-o', self.out(path), *arguments)
-            self.assertEqual(self.check_ended(running, 2), f'goblin-scan: {self.out(path)} can not be read or written: it is no regular file\n')
+        said = lambda name, why: f'goblin-scan: {self.out(name)} can not be read or written: {why}\n'
+        for name, why, options in (('absent/r.csv', 'No such file or directory', []), ('absent/r.csv', 'No such file or directory', ['--resume']),
+                                   *((name, 'it is no regular file', []) for name in ('fifo.csv', 'folder.csv')),
+                                   ('fifo.csv', 'it is no regular file', ['--resume'])):
+            self.assertEqual(self.check_ended(self.start('-o', self.out(name), *options), 2), said(name, why))
+        limit = LIMITED.format('(resource.RLIMIT_FSIZE, (9999, 9999))')
+        for number in ('0', '2'):
+            found = run(sys.executable, '-c', limit, 'scan', self.files, '-o', self.out('r.csv'), '--workers', number)
+            self.assertEqual((found.returncode, found.stderr), (2, said('r.csv', 'File too large')))
         # (the report that a link names is written)
-        scan(self.files, '-o', self.out('r.csv'), '--workers', '0')
+        self.scan()
         os.symlink('r.csv', self.out('link.csv'))
-        scan(os.path.join(self.files, 'sub'), '-o', self.out('link.csv'), '--workers', '0')
-        self.assertEqual((self.rows('r.csv'), os.path.islink(self.out('link.csv'))), ([], True))
+        self.scan(name='link.csv', folders=[self.path('sub')])
+        self.assertEqual((self.rows(), os.path.islink(self.out('link.csv'))), ([], True))
         self.assertEqual(sorted(os.listdir(self.folder)), ['fifo', 'fifo.csv', 'files', 'folder.csv', 'link.csv', 'r.csv'])
 
 
@@ -1039,26 +966,23 @@ class Scheduler(Folder):
         while not os.path.exists(self.out('scheduler.json')) or os.path.getsize(self.out('scheduler.json')) == 0:
             self.assertIsNone(scheduler.poll())
             time.sleep(0.05)
-        with open(self.out('scheduler.json')) as file:
-            return scheduler, json.load(file)['address']
+        return scheduler, self.rows('scheduler.json')['address']
 
-    def start(self, address):
+    def start(self, address, size):
+        """Starts a scan by a scheduler, and waits until its report has some bytes."""
+        write(self.out('many.csv'), b'')
         command = [*SCAN, self.files, '-o', self.out('many.csv'), '--scheduler', address, '--batch', '4']
         running = subprocess.Popen(command, stderr=subprocess.PIPE, universal_newlines=True)
         self.addCleanup(running.communicate)
         self.addCleanup(running.kill)
+        while os.path.getsize(self.out('many.csv')) < size:
+            self.assertIsNone(running.poll())
         return running
-
-    def start_workers(self, address):
-        processes = [self.run_dask('worker', '--no-nanny', '--nthreads', '1') for _ in range(3)]
-        with distributed.Client(address) as client:
-            client.wait_for_workers(3, timeout=60)
-        return processes
 
     def test_a_file_that_ends_each_worker(self):
         """As Dask reports a batch of which it has tried the last worker."""
         self.put_many(7)
-        lost, late = os.path.join(self.files, '00002'), [asyncio.TimeoutError()]
+        lost, late = self.path('00002'), [asyncio.TimeoutError()]
 
         class Client(contextlib.nullcontext):
             def wait_for_workers(self, count, timeout):
@@ -1079,9 +1003,9 @@ class Scheduler(Folder):
                     return function(batch)
                 return types.SimpleNamespace(result=result)
 
-        paths = sorted(os.path.join(self.files, name) for name in os.listdir(self.files) if name != 'sub')
-        patched = unittest.mock.patch.object(distributed, 'Client', lambda address, timeout: Client())
-        with patched, contextlib.redirect_stderr(io.StringIO()) as said:
+        paths = sorted(self.path(name) for name in os.listdir(self.files) if name != 'sub')
+        replaced = unittest.mock.patch.object(distributed, 'Client', lambda address, timeout: Client())
+        with replaced, contextlib.redirect_stderr(io.StringIO()) as said:
             results = list(workers.Scheduled(module.examine, 'made').results(iter([paths[:4], paths[4:]])))
         self.assertEqual(said.getvalue(), f'goblin-scan: the scheduler made has had no result for {workers.PATIENCE} seconds; waiting\n')
         found = [(path, rows[0]['refused']) for batch, result in results for path, rows, _ in result or module.lost(*batch)]
@@ -1098,38 +1022,32 @@ class Scheduler(Folder):
 
     def test_killed_workers(self):
         self.put_many(1200)
-        scan(self.files, '-o', self.out('one.csv'), '--workers', '0')
+        self.scan(name='one.csv')
         scheduler, address = self.start_scheduler()
-        processes = self.start_workers(address)
+        processes = [self.run_dask('worker', '--no-nanny', '--nthreads', '1') for _ in range(3)]
+        with distributed.Client(address) as client:
+            client.wait_for_workers(3, timeout=60)
         third = len(read(self.out('one.csv'))) // 3
         # (the first of them before the first row)
         for process, size in zip(processes, (1, third)):
-            with open(self.out('many.csv'), 'w'):
-                pass
-            running = self.start(address)
-            while os.path.getsize(self.out('many.csv')) < size:
-                self.assertIsNone(running.poll())
+            running = self.start(address, size)
             process.kill()
             self.assertLess(os.path.getsize(self.out('many.csv')), 3 * third)
             self.assertIn('1200 files', running.communicate(timeout=120)[1])
             self.assertEqual(running.returncode, 0)
-            self.assertEqual(read(self.out('many.csv')), read(self.out('one.csv')))
+            self.check_same('many.csv', 'one.csv')
         # the scheduler itself
-        os.remove(self.out('many.csv'))
-        running = self.start(address)
-        while not os.path.exists(self.out('many.csv')) or os.path.getsize(self.out('many.csv')) < third:
-            self.assertIsNone(running.poll())
+        running = self.start(address, third)
         scheduler.kill()
         said = running.communicate(timeout=60)[1]
         self.assertEqual((running.returncode, said),
                          (2, f'goblin-scan: the scheduler {address} is gone; --resume goes on with {self.out("many.csv")}\n'))
-        scan(self.files, '-o', self.out('many.csv'), '--workers', '2', '--resume')
-        self.assertEqual(read(self.out('many.csv')), read(self.out('one.csv')))
+        self.scan('--workers', '2', '--resume', name='many.csv')
+        self.check_same('many.csv', 'one.csv')
 
     def test_schedulers_that_can_not_be_used(self):
         self.put_many(1)
-        with open(self.out('r.csv'), 'w') as file:
-            file.write('old')
+        write(self.out('r.csv'), 'old')
         scheduler, address = self.start_scheduler()
         # (on a busy machine a scheduler may take long to answer)
         for patience in (1, 8, 64):
@@ -1144,10 +1062,10 @@ class Scheduler(Folder):
         self.assertEqual(read(self.out('r.csv')), b'old')
 
     def stopped(self, address, patience):
-        patched = unittest.mock.patch.object(workers, 'PATIENCE', patience)
-        with patched, contextlib.redirect_stderr(io.StringIO()) as said:
-            self.assertEqual(module.main([self.files, '-o', self.out('r.csv'), '--scheduler', address]), 2)
-        return said.getvalue()
+        with unittest.mock.patch.object(workers, 'PATIENCE', patience):
+            status, said = ended(self.files, '-o', self.out('r.csv'), '--scheduler', address)
+        self.assertEqual(status, 2)
+        return said
 
     def check_reason(self, said, address, why):
         self.assertRegex(said, f'(?m)^goblin-scan: the scheduler {address} {why}[^\n]*\n$')
@@ -1214,7 +1132,3 @@ def listening():
     tables = {name: read(f'/proc/net/{name}').decode().splitlines()[1:] for name in ('tcp', 'tcp6', 'unix') if os.path.exists(f'/proc/net/{name}')}
     tcp = [line.split() for name in ('tcp', 'tcp6') for line in tables.get(name, [])]
     return {line[9] for line in tcp if line[3] == '0A'} | {line.split()[6] for line in tables['unix'] if line.split()[3] == '00010000'}
-
-
-if __name__ == '__main__':
-    unittest.main()

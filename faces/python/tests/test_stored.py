@@ -34,7 +34,3 @@ class Stored(unittest.TestCase):
             self.assertEqual([error for error in exceptions if not isinstance(error, Refused)], [])
             refused += bool(exceptions)
         self.assertTrue(20 < refused < 200)
-
-
-if __name__ == '__main__':
-    unittest.main()

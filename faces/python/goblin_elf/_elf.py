@@ -8,14 +8,14 @@ import stat
 import sys
 from typing import IO, Any, Callable, Iterable, Iterator, List, Optional, Tuple, Union
 
-from . import interface, items
+from . import _interface, _items
+from ._items import (ESCAPED, Dynamic, E, Fields, Header, Name, Note, Relocations, Section, Sections, Segment, Segments, Strings, Symbol, Symbols,
+                     Table, name_of_note, named, note_of, read_notes)
 from ._library import FILE, FUNCTIONS, HEADER, RANGE, File, call, found, unsigned
+from ._names import class_to_str, et_to_str, machine_to_str
+from ._refused import Unknown, within
 from .constants import (DT_NEEDED, DT_RPATH, DT_RUNPATH, DT_SONAME, ELFCLASS64, ELFDATA2MSB, NT_GNU_BUILD_ID, PT_INTERP, PT_NOTE, SHT_DYNSYM,
                         SHT_NOTE, SHT_SYMTAB)
-from .items import (ESCAPED, Dynamic, Fields, Header, Name, Note, Relocations, Section, Sections, Segment, Segments, Symbol,
-                    Symbols, T, Table, name_of_note, named, note_of, read_notes)
-from .names import class_to_str, et_to_str, machine_to_str
-from .refused import Unknown, within
 
 # (before Python 3.9 it takes no type)
 if sys.version_info >= (3, 9):
@@ -45,8 +45,13 @@ def name_of(to_str: Callable[[int], str], number: int) -> str:
 def checked(header: Header) -> Header:
     """Returns a header. Raises a TypeError if it is none."""
     if not isinstance(header, Header):
-        raise TypeError(f'a header is a Header, such as elf.header._replace(e_entry=0), and no {type(header).__name__}')
+        raise TypeError(f'a header is a Header, such as elf.header.replace(e_entry=0), and no {type(header).__name__}')
     return header
+
+
+def header_in(image: Any) -> Header:
+    """Returns the header of a file as the library has it."""
+    return Header._read.from_buffer(image, FILE.size - HEADER.size)  # type: ignore[no-any-return]
 
 
 class Elf:
@@ -66,8 +71,13 @@ class Elf:
 
     def _use(self, header: Optional[Header]) -> None:
         place = self._file.address, self._file.length
-        self._header = Header(*(found('file', FILE, *place) or ())[2:]) if header is None else checked(header)
-        self._image = FILE.pack((*place, *self._header))
+        if header is None:
+            self._image: Any = FILE.buffer()
+            call('file', *place, self._image)
+            self._header = header_in(self._image)
+        else:
+            self._header = checked(header)
+            self._image = FILE.pack([*place, *header.as_dict().values()])
 
     @classmethod
     def open(cls, path: Path, *, copy: bool = False) -> 'Elf':
@@ -84,7 +94,7 @@ class Elf:
         """Returns the same file by a header that counts only what lies in it whole: the headers of a file that is cut. Never refused."""
         whole = FILE.buffer()
         FUNCTIONS['whole_header'](self._image, whole)
-        return Elf(self._file.view, Header(*FILE.unpack(whole)[2:]))
+        return Elf(self._file.view, header_in(whole))
 
     @property
     def header(self) -> Header:
@@ -115,46 +125,45 @@ class Elf:
         return self.header.ei_data != ELFDATA2MSB
 
     @property
-    def sections(self) -> Sections:
+    def section_headers(self) -> Sections:
         """The section headers. Refused if they are not all inside the file."""
         return Sections(self)
 
     @property
-    def segments(self) -> Segments:
+    def program_headers(self) -> Segments:
         """The program headers. Refused if they are not all inside the file."""
         return Segments(self)
 
     @property
-    def symbols(self) -> Symbols:
+    def syms(self) -> Symbols:
         """The symbols of the first section of type SHT_SYMTAB, or none. Refused if the section headers or the table are."""
-        return section.symbols if (section := self.section_by_type(SHT_SYMTAB)) else Symbols(self, 0, 0)
+        return section.symtab if (section := self.section_by_type(SHT_SYMTAB)) else Symbols(self, 0, 0)
 
     @property
-    def dynamic_symbols(self) -> Symbols:
-        """The symbols of the first section of type SHT_DYNSYM, or none. Refused as `symbols` is."""
-        return section.symbols if (section := self.section_by_type(SHT_DYNSYM)) else Symbols(self, 0, 0)
+    def dynsyms(self) -> Symbols:
+        """The symbols of the first section of type SHT_DYNSYM, or none. Refused as `syms` is."""
+        return section.symtab if (section := self.section_by_type(SHT_DYNSYM)) else Symbols(self, 0, 0)
 
-    def section(self, name: Name, first: int = 0) -> Optional[Section]:
+    def section_by_name(self, name: Name, first: int = 0) -> Optional[Section]:
         """Returns the first section with a name, from an index on, or `None`. Refused if the section headers or their names are."""
         table = Sections(self)
-        return self._search(table, 'section_by_name', table.strings._range, *named(name), unsigned(first))
+        return self._search(table, 'section_by_name', table.strtab._range, *named(name), unsigned(first))
 
     def section_by_type(self, sh_type: int, first: int = 0) -> Optional[Section]:
         """Returns the first section of a type, from an index on, or `None`. Refused if the section headers are."""
         return self._search(Sections(self), 'section_by_type', unsigned(sh_type, 32), unsigned(first))
 
-    def _search(self, table: Table[T], name: str, *arguments: Any) -> Optional[T]:
+    def _search(self, table: Table[E], name: str, *arguments: Any) -> Optional[E]:
         """Makes a call that finds an item of a table and its index, or `None` at GOBLIN_END."""
         index = ctypes.c_uint64()
-        fields = found(name, table.record, self._image, *arguments, ctypes.byref(index))
-        return table._made(fields, index.value) if fields else None
+        return table._find(index, name, *arguments, ctypes.byref(index))
 
     @property
     def notes(self) -> Iterator[Note]:
         """The notes of all segments of type PT_NOTE, or if there are none, of all sections of type SHT_NOTE, as they are read. The segments hold
         those that are loaded. Others, as the GNU build ID of a program in Go may be, are in sections alone: see `Section.notes`, `build_id`.
         Refused as the headers are, and then at the first damaged note."""
-        segments = (segment for segment in self.segments if segment.p_type == PT_NOTE)
+        segments = (segment for segment in self.program_headers if segment.p_type == PT_NOTE)
         first = next(segments, None)
         return self._notes(itertools.chain([first], segments) if first else self._note_sections())
 
@@ -166,8 +175,10 @@ class Elf:
 
     def _notes(self, holders: Iterable[Union[Segment, Section]]) -> Iterator[Note]:
         for holder in holders:
-            fields_of_all = read_notes(self, 'note_whole', RANGE.pack(holder[:2]), holder[5], holder[0])
-            yield from (note_of(self, fields, ESCAPED) for fields in fields_of_all)
+            yield from (note_of(self, fields, ESCAPED) for fields in self._fields_of_notes(holder))
+
+    def _fields_of_notes(self, holder: Union[Segment, Section]) -> Iterator[Fields]:
+        return read_notes(self, 'note_whole', RANGE.pack(holder._place), holder._alignment, holder._place[0])
 
     @property
     def build_id(self) -> Optional[memoryview]:
@@ -180,12 +191,11 @@ class Elf:
 
     def _note(self, n_type: int) -> Optional[memoryview]:
         """Returns the descriptor of the first note GNU of a type, or `None`. Raises `Unknown` if it may come after all that is read."""
-        segments = (segment for segment in within(SEGMENTS, self.segments) if segment.p_type == PT_NOTE)
+        segments = (segment for segment in within(SEGMENTS, self.program_headers) if segment.p_type == PT_NOTE)
         holders: Iterator[Union[Segment, Section]] = itertools.chain(segments, self._note_sections())
         # (a segment or section counts as a note, which comes before its own)
         own: Fields = ()
-        notes = itertools.chain.from_iterable(
-            itertools.chain([own], read_notes(self, 'note_whole', RANGE.pack(holder[:2]), holder[5], holder[0])) for holder in holders)
+        notes = itertools.chain.from_iterable(itertools.chain([own], self._fields_of_notes(holder)) for holder in holders)
         for fields in itertools.islice(notes, NOTES):
             if fields and fields[5] == n_type and fields[1] == 3 and name_of_note(self, fields) == b'GNU\0':
                 return self._file.part(*fields[2:4])
@@ -194,7 +204,7 @@ class Elf:
         return None
 
     @property
-    def dynamic(self) -> Dynamic:
+    def dynamic_section(self) -> Dynamic:
         """The dynamic section: that of the first segment of type PT_DYNAMIC, or in a file without program headers of the first section of type
         SHT_DYNAMIC. It has no entries if there is none. Refused if the headers or the section are not inside the file."""
         offset, size = self._dynamic_place() or (0, 0)
@@ -204,45 +214,50 @@ class Elf:
         """Returns the range of the dynamic section, if there is one."""
         return found('dynamic', RANGE, self._image)
 
-    def _names(self, tag: int) -> Iterator[str]:
-        return (entry.string for entry in self.dynamic if entry.d_tag == tag)
+    def _names(self, tag: int, read: Callable[[Strings, List[int]], List[Optional[str]]]) -> List[str]:
+        """Returns the strings of all entries with a tag."""
+        dynamic = self.dynamic_section
+        offsets = [entry.d_val for entry in dynamic if entry.d_tag == tag]
+        names = read(dynamic.strings, offsets) if offsets else []
+        return [name if name is not None else dynamic._refuse(tag, offset) for name, offset in zip(names, offsets)]
+
+    def _paths(self, tag: int) -> List[str]:
+        return self._names(tag, lambda strings, offsets: strings._get_each_once(offsets, ESCAPED, strings.get))
 
     @property
-    def needed(self) -> List[str]:
-        """The names of the libraries that the file needs, in its order. Refused as `dynamic` is, or if one is not in its strings, and as
-        `Strings.get_all` is. Bytes that are not UTF-8 are decoded with 'surrogateescape', here and below."""
-        dynamic = self.dynamic
-        offsets = [entry.d_val for entry in dynamic if entry.d_tag == DT_NEEDED]
-        names = dynamic.strings.get_all(offsets, 'surrogateescape') if offsets else []
-        return [name if name is not None else dynamic._refuse(DT_NEEDED, offset) for name, offset in zip(names, offsets)]
+    def libraries(self) -> List[str]:
+        """The names of the libraries that the file needs (DT_NEEDED), in its order. Refused as `dynamic_section` is, or if one is not in its
+        strings, and as `Strings.get_all` is. Bytes that are not UTF-8 are decoded with 'surrogateescape', here and below."""
+        return self._names(DT_NEEDED, lambda strings, offsets: strings.get_all(offsets, ESCAPED))
 
     @property
     def soname(self) -> Optional[str]:
-        """The name of this library, or `None`. Refused as `needed` is."""
-        return next(self._names(DT_SONAME), None)
+        """The name of this library, or `None`. Refused as `dynamic_section` is, or if it is not in its strings."""
+        return next((entry.string for entry in self.dynamic_section if entry.d_tag == DT_SONAME), None)
 
     @property
-    def rpath(self) -> Optional[str]:
-        """The folders in which needed libraries are looked for first, with colons between, or `None`. Refused as `needed` is."""
-        return next(self._names(DT_RPATH), None)
+    def rpaths(self) -> List[str]:
+        """The folders in which needed libraries are looked for first, with colons between: mostly one text. Refused as `libraries` is, but not
+        if no zero byte closes one."""
+        return self._paths(DT_RPATH)
 
     @property
-    def runpath(self) -> Optional[str]:
-        """The folders in which needed libraries are looked for after those of LD_LIBRARY_PATH, with colons between, or `None`. If there is
-        one, `rpath` does not count. Refused as `needed` is."""
-        return next(self._names(DT_RUNPATH), None)
+    def runpaths(self) -> List[str]:
+        """The folders in which needed libraries are looked for after those of LD_LIBRARY_PATH, as `rpaths`, which do not count if there are
+        some of these. Refused as `rpaths` is."""
+        return self._paths(DT_RUNPATH)
 
     @property
     def interpreter(self) -> Optional[str]:
         """The path in the first segment of type PT_INTERP, or `None`. Refused if the program headers or the path are not inside the file."""
-        segment = next((segment for segment in self.segments if segment.p_type == PT_INTERP), None)
-        return segment and segment.strings.get(0, 'surrogateescape')
+        segment = next((segment for segment in self.program_headers if segment.p_type == PT_INTERP), None)
+        return segment.strtab.get(0, ESCAPED) if segment else None
 
-    def symbol_at(self, address: int) -> Optional[Symbol]:
-        """Returns the symbol of an address, of the symbols or, if there are none, of the dynamic symbols, or `None`: see `Symbols.at`."""
-        return (self.symbols or self.dynamic_symbols).at(address)
+    def symbol_by_address(self, address: int) -> Optional[Symbol]:
+        """Returns the symbol of an address, of the symbols or, if there are none, of the dynamic symbols, or `None`: see `Symbols`."""
+        return (self.syms or self.dynsyms).symbol_by_address(address)
 
-    def offset_of(self, address: int) -> Optional[int]:
+    def address_to_offset(self, address: int) -> Optional[int]:
         """Returns the offset in the file of the byte that is loaded at an address, or `None` if there is none."""
         return self._find_number('address_to_offset', unsigned(address))
 
@@ -253,7 +268,7 @@ class Elf:
     def put_header(self, header: Header) -> None:
         """Writes a header at the start of the file, in the class and byte order that it names, and reads by it from now on. Refused if its
         class or byte order is invalid, if the file is too short for it, or if a number does not fit its class."""
-        self._write('put_header', HEADER.pack(checked(header)))
+        self._write('put_header', HEADER.pack_item(checked(header)))
         self._use(None)
 
     def put_number(self, offset: int, width: int, value: int) -> None:
@@ -262,7 +277,7 @@ class Elf:
 
     def _put_number(self, name: str, *arguments: Any) -> None:
         *places, offset, width, value = arguments
-        if not self._write(name, HEADER.pack(self._header), *places, unsigned(offset), unsigned(width), unsigned(value)):
+        if not self._write(name, HEADER.pack_item(self._header), *places, unsigned(offset), unsigned(width), unsigned(value)):
             raise ValueError('the width of a number is 1, 2, 4 or 8')
 
     def _number(self, name: str, *arguments: Any) -> int:
@@ -288,5 +303,5 @@ class Elf:
 
 
 # (typing.get_type_hints looks for what annotations name in their own modules, which can't import it)
-vars(items).update(Elf=Elf)
-vars(interface).update(Dynamic=Dynamic, Relocations=Relocations, Sections=Sections, Segments=Segments, Symbols=Symbols)
+vars(_items).update(Elf=Elf)
+vars(_interface).update(Dynamic=Dynamic, Relocations=Relocations, Sections=Sections, Segments=Segments, Symbols=Symbols)

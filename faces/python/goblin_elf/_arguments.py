@@ -6,7 +6,7 @@ import stat
 import sys
 from typing import Any
 
-from .elf import Elf
+from ._elf import Elf
 
 
 def put(text: str, stream: Any) -> None:

@@ -1,24 +1,23 @@
-"""What a file holds: items, which are tuples with names, and the tables that they are in, which are sequences."""
+"""What a file holds: items, which have named fields, and the tables that they are in, which are sequences."""
 import contextlib
 import ctypes
 import functools
 import itertools
 import operator
 from array import array
-from typing import (TYPE_CHECKING, Any, Dict, Iterable, Iterator, List, NamedTuple, NoReturn, Optional, Sequence, Tuple, Type, TypeVar, Union,
-                    overload)
+from typing import TYPE_CHECKING, Any, Callable, Dict, Iterable, Iterator, List, NoReturn, Optional, Sequence, Tuple, Type, TypeVar, Union, overload
 
+from ._interface import DynFields, HeaderFields, Item, Kind, RelocFields, SectionFields, SegmentFields, SymbolFields
 from ._library import FUNCTIONS, HEADER, RANGE, RECORDS, REFUSAL, Record, call, found, refused, unsigned
+from ._names import sht_to_str
+from ._refused import Refused
 from .constants import (SHT_DYNSYM, SHT_NOBITS, SHT_REL, SHT_RELA, SHT_SYMTAB, SIZEOF_REL32, SIZEOF_REL64, SIZEOF_RELA32, SIZEOF_RELA64,
                         SIZEOF_SHDR32, SIZEOF_SHDR64, SIZEOF_SYM32, SIZEOF_SYM64)
-from .interface import DynFields, HeaderFields, Item, Kind, RelocFields, SectionFields, SegmentFields, SymbolFields
-from .names import sht_to_str
-from .refused import Refused
 
 if TYPE_CHECKING:
-    from .elf import Elf
+    from ._elf import Elf
 
-T = TypeVar('T', bound=Tuple[Any, ...])
+E = TypeVar('E', bound='Entry')
 Fields = Tuple[int, ...]
 Name = Union[str, bytes]
 # How many items are read by one call. How many names are, at first, how far names are asked for in order, and the most bytes of many names.
@@ -31,54 +30,103 @@ NARROW = {'sh_name': (4, 0, 0), 'st_name': (4, 0, 0), 'st_shndx': (2, 14, 6), 'r
 
 @functools.total_ordering
 class Entry:
-    """What items have: a `repr`, and comparisons by the standard's fields, which are all but the index and the table."""
+    """What items have: named fields that stay, a `repr`, and comparisons by the standard's fields, which are all but the index and the table.
+
+    A class of items has two of its own: of those that are read, which are where the library wrote them, and of those with any values.
+    """
     __slots__ = ()
-    __ne__ = object.__ne__
+    _public: Any
+    _read: Any
+    _made: Any
+    _names: Tuple[str, ...]
+    _all: Tuple[str, ...]
+
+    def __init_subclass__(cls, record: Optional[Record] = None, fields: Tuple[str, ...] = (), more: Tuple[str, ...] = ()) -> None:
+        names = record.names if record else fields
+        if names:
+            cls._public, cls._names, cls._all = cls, names, names + more
+            cls._made = type(cls.__name__, (cls,), {'__slots__': cls._all, '__module__': cls.__module__})
+            cls._read = record and record.class_of(cls, bool(more))
+
+    def __new__(cls: Type[E], **fields: Any) -> E:
+        if fields.keys() != set(cls._all):
+            raise TypeError(f'the fields of a {cls.__name__} are {", ".join(cls._all)}')
+        item: E = object.__new__(cls._made)
+        for name, value in fields.items():
+            object.__setattr__(item, name, value)
+        return item
+
+    if not TYPE_CHECKING:
+        def __setattr__(self, name: str, value: object) -> None:
+            raise AttributeError(f'a {type(self).__name__} stays as it is: item.replace({name}=..) returns another one')
+
+        def __delattr__(self, name: str) -> None:
+            self.__setattr__(name, None)
+
+    def replace(self: E, **fields: Any) -> E:
+        """Returns the same item with other values of some fields, of any type: a table takes those alone that fit."""
+        return self._public(**{**{name: getattr(self, name) for name in self._all}, **fields})  # type: ignore[no-any-return]
+
+    def as_dict(self) -> Dict[str, Any]:
+        """Returns the standard's fields by their names."""
+        return {name: getattr(self, name) for name in self._names}
 
     def __repr__(self: Any) -> str:
-        fields = [(field, value) for field, value in zip(self._fields, self) if field != 'table']
-        parts = [f'{field}={hex(value) if isinstance(value, int) and value > 9 else value}' for field, value in fields]
+        fields = [(name, getattr(self, name)) for name in self._all if name != 'table']
+        parts = [f'{name}={hex(value) if isinstance(value, int) and value > 9 else value}' for name, value in fields]
         # (of numbers of the caller, a name may be none)
         with contextlib.suppress(AttributeError, TypeError, ValueError):
             parts.insert(0, f'name={self.name!r}')
         return f'{type(self).__name__}({", ".join(parts)})'
 
-    def _key(self: Any) -> Tuple[Any, ...]:
+    def __reduce__(self) -> Any:
+        return made_again, (self._public, {name: getattr(self, name) for name in self._all})
+
+    def _key(self) -> Tuple[Any, ...]:
         """What it is sorted by."""
-        return tuple(self[:-2])
+        return tuple(self.as_dict().values())
 
-    def __eq__(self: Any, other: Any) -> bool:
-        return type(other) is type(self) and bool(self[:-2] == other[:-2])
+    def __eq__(self, other: Any) -> bool:
+        return isinstance(other, self._public) and bool(self._key() == other._key())
 
-    def __hash__(self: Any) -> int:
+    def __hash__(self) -> int:
         return hash(self._key())
 
-    def __lt__(self: Any, other: Any) -> bool:
-        if type(other) is not type(self):
+    def __lt__(self, other: Any) -> bool:
+        if not isinstance(other, self._public):
             return NotImplemented
         return bool(self._key() < other._key())
 
 
+def made_again(kind: Type[E], fields: Dict[str, Any]) -> E:
+    """Returns an item that was pickled."""
+    return kind(**fields)
+
+
+OF_TABLE = 'index', 'table'
+
+
+@functools.lru_cache(None)
+def array_of(kind: Any, count: int) -> Any:
+    """Returns ctypes' type of an array of items."""
+    return kind * count
+
+
 class Held(Entry):
-    """What sections and segments have. Their first two fields are a range of the file, and their sixth is its alignment."""
+    """What sections and segments have: a range of the file, which need not be inside the file, and its alignment."""
     __slots__ = ()
 
     @property
-    def _place(self: Any) -> Tuple[int, int]:
-        """Its range of the file, inside the file or not."""
-        return self[0], self[1]
-
-    @property
-    def bytes(self: Any) -> memoryview:
+    def data(self: Any) -> memoryview:
         """Its bytes in the file, without a copy: none for a type without bytes. Refused if they are not inside the file."""
         elf, table = self.table.elf, self.table
-        return memoryview(elf._file.part(*found(f'{table.one}_range', RANGE, elf._image, table.record.pack(self[:-2])) or (0, 0)))
+        return memoryview(elf._file.part(*found(f'{table.one}_range', RANGE, elf._image, table.record.pack_item(self)) or (0, 0)))
 
     @property
-    def bytes_in_file(self: Any) -> memoryview:
+    def readable_data(self: Any) -> memoryview:
         """Those of its bytes that are inside the file. Never refused."""
         with contextlib.suppress(Refused):
-            return memoryview(self.bytes)
+            return memoryview(self.data)
         elf, place = self.table.elf, RANGE.buffer()
         FUNCTIONS['range_in_file'](elf._image, RANGE.pack(self._place), place)
         return memoryview(elf._file.part(*RANGE.unpack(place)))
@@ -87,10 +135,10 @@ class Held(Entry):
     def notes(self: Any) -> 'Notes':
         """Its notes. Refused at the first damaged note. Their names need not be UTF-8: see `Notes`."""
         offset, size = self._place
-        return Notes(self.table.elf, offset, size, self[5], ESCAPED)
+        return Notes(self.table.elf, offset, size, self._alignment, ESCAPED)
 
     @property
-    def strings(self: Any) -> 'Strings':
+    def strtab(self: Any) -> 'Strings':
         """Its bytes as a string table, such as the interpreter's path of a segment of type PT_INTERP. Never refused: a string of it may be."""
         return Strings(self.table.elf, *self._place)
 
@@ -103,20 +151,23 @@ class Held(Entry):
         self.table.elf._put_number('put_number_in', RANGE.pack(self._place), offset, width, value)
 
 
-class Header(HeaderFields):
-    """A file's header. goblin.h has more on each field. To write a changed one: `elf.put_header(elf.header._replace(e_entry=0))`."""
+class Header(Entry, HeaderFields, record=HEADER):
+    """A file's header. goblin.h has more on each field. To write a changed one: `elf.put_header(elf.header.replace(e_entry=0))`."""
     __slots__ = ()
-    __repr__ = Entry.__repr__
 
 
-class Section(Held, SectionFields):
+class Section(Held, SectionFields, record=RECORDS['section'], more=OF_TABLE):
     """A section header, with its index in its table. Offsets and sizes are in bytes."""
     __slots__ = ()
 
     @property
     def _place(self) -> Tuple[int, int]:
-        """Its range of the file, inside the file or not: an empty one for SHT_NOBITS, whatever its size."""
+        """Its range of the file: an empty one for SHT_NOBITS, whatever its size."""
         return (0, 0) if self.sh_type == SHT_NOBITS else (self.sh_offset, self.sh_size)
+
+    @property
+    def _alignment(self) -> int:
+        return self.sh_addralign
 
     @property
     def name(self) -> Optional[str]:
@@ -125,20 +176,19 @@ class Section(Held, SectionFields):
         return self.table._learn(self.index, self.sh_name) if known is None else known
 
     @property
-    def linked(self) -> Optional['Section']:
+    def linked_section(self) -> Optional['Section']:
         """The section that `sh_link` names, or `None` if there is none that has bytes. Refused if the section headers are."""
-        fields = found('linked_section', RECORDS['section'], self.table.elf._image, unsigned(self.sh_link))
-        return self.table._made(fields, self.sh_link) if fields else None
+        return self.table._find(self.sh_link, 'linked_section', unsigned(self.sh_link))
 
     @property
-    def symbols(self) -> 'Symbols':
+    def symtab(self) -> 'Symbols':
         """Its symbols, with the names of the section that it links to. Refused if it is no symbol table or not in the file."""
         self._check('symbols', SHT_SYMTAB, SHT_DYNSYM)
-        names = self.linked
-        return Symbols(self.table.elf, self.sh_offset, self.sh_size, names.strings if names else None)
+        names = self.linked_section
+        return Symbols(self.table.elf, self.sh_offset, self.sh_size, names.strtab if names else None)
 
     @property
-    def relocations(self) -> 'Relocations':
+    def relocs(self) -> 'Relocations':
         """Its relocations, with the symbols that it links to. Refused if it has another type, or is not in the file."""
         self._check('relocations', SHT_RELA, SHT_REL)
         return Relocations(self.table.elf, self.sh_offset, self.sh_size, self.sh_type == SHT_RELA, self)
@@ -149,12 +199,20 @@ class Section(Held, SectionFields):
             raise Refused(said, Kind.SECTION_TYPE, 0, (self.sh_type,), self.sh_offset)
 
 
-class Segment(Held, SegmentFields):
+class Segment(Held, SegmentFields, record=RECORDS['segment'], more=OF_TABLE):
     """A program header, with its index in its table. Offsets and sizes are in bytes."""
     __slots__ = ()
 
+    @property
+    def _place(self) -> Tuple[int, int]:
+        return self.p_offset, self.p_filesz
 
-class Symbol(Entry, SymbolFields):
+    @property
+    def _alignment(self) -> int:
+        return self.p_align
+
+
+class Symbol(Entry, SymbolFields, record=RECORDS['symbol'], more=OF_TABLE):
     """A symbol, with its index in its table."""
     __slots__ = ()
 
@@ -165,49 +223,39 @@ class Symbol(Entry, SymbolFields):
         return self.table._learn(self.index, self.st_name) if known is None else known
 
     @property
-    def binding(self) -> int:
+    def st_bind(self) -> int:
         """An STB_ number."""
         return self.st_info >> 4
 
     @property
-    def type(self) -> int:
+    def st_type(self) -> int:
         """An STT_ number."""
         return self.st_info & 15
 
     @property
-    def visibility(self) -> int:
+    def st_visibility(self) -> int:
         """An STV_ number."""
         return self.st_other & 7
 
 
-class Relocation(Entry, RelocFields):
+class Relocation(Entry, RelocFields, record=RECORDS['reloc'], more=OF_TABLE):
     """A relocation, with its index in its table."""
     __slots__ = ()
 
     @property
     def symbol(self) -> Optional[Symbol]:
         """The symbol that it refers to, or `None` for none or one past the end. Refused as the symbols are."""
-        symbols = self.table.symbols if self.r_sym else ()
+        symbols = self.table.symtab if self.r_sym else ()
         return symbols[self.r_sym] if unsigned(self.r_sym) < len(symbols) else None
 
     def _key(self) -> Tuple[Any, ...]:
         # (one that has no addend of its own comes first)
-        return self[0], self[1], self.r_addend is not None, self.r_addend or 0, self.r_type
+        return self.r_offset, self.r_sym, self.r_addend is not None, self.r_addend or 0, self.r_type
 
 
-class Dyn(Entry, DynFields):
+class Dyn(Entry, DynFields, record=RECORDS['dyn'], more=OF_TABLE):
     """An entry of the dynamic section, with its index in it."""
     __slots__ = ()
-
-    @property
-    def tag(self) -> int:
-        """What it says, a DT_ number."""
-        return self.d_tag
-
-    @property
-    def value(self) -> int:
-        """A number, an address, or the offset of a string, as the tag says."""
-        return self.d_val
 
     @property
     def string(self) -> str:
@@ -217,18 +265,13 @@ class Dyn(Entry, DynFields):
         return self.table._refuse(self.d_tag, self.d_val) if found is None else found
 
 
-class NoteFields(NamedTuple):
-    """What a note has."""
-
-    n_type: int  # its type, whose meaning depends on the name
-    name: str  # its name, without the zero bytes at its end
-    desc: memoryview  # its descriptor, without a copy
-
-
-class Note(Entry, NoteFields):
-    """A note."""
+class Note(Entry, fields=('n_type', 'name', 'desc')):
+    """A note: its type, whose meaning depends on the name; its name, without the zero bytes at its end; and its descriptor, without a copy."""
     __slots__ = ()
-    __eq__, __hash__ = NoteFields.__eq__, Entry.__hash__
+    if TYPE_CHECKING:
+        n_type: int
+        name: str
+        desc: memoryview
 
     def _key(self) -> Tuple[Any, ...]:
         return self.n_type, self.name, bytes(self.desc)
@@ -237,21 +280,25 @@ class Note(Entry, NoteFields):
         return f'Note(n_type={self.n_type}, name={self.name!r}, desc={self.desc.hex()!r})'
 
     def __reduce__(self) -> Any:
-        return note_with, (self.n_type, self.name, bytes(self.desc))
+        return note_with, self._key()
 
 
-class Table(Sequence[T]):
+class Table(Sequence[E]):
     """A sequence of the items of a table. The call that makes it is refused if the table is, so it has all of its items.
 
-    An index reads one item, a slice is a list, and an iteration reads many items, and their names, by a call. If the bytes change after the
-    table was made, an item may be refused, or raise an IndexError if it is gone. `table[index] = item` writes an item into a buffer that can be
-    written: it raises Refused with `Kind.INTEGER_FIT` if a number does not fit the file's class, and then changes nothing.
+    An index reads one item, a slice is a list, and an iteration reads many items, which share memory, and their names, by a call. If the bytes
+    change after the table was made, an item may be refused, or raise an IndexError if it is gone. `table[index] = item` writes an item into a
+    buffer that can be written: it raises Refused with `Kind.INTEGER_FIT` if a number does not fit the file's class, and then changes nothing.
     """
     record: Record
-    item: Type[T]
+    item: Type[E]
+    _class: Any  # of the items that are read
     # The call for one item, and that for many if there is one. And the sizes of a record in both classes.
     one, many = '', ''
     sizes = 0, 0
+
+    def __init_subclass__(cls) -> None:
+        cls._class = cls.item._read if hasattr(cls, 'item') else None
 
     def __init__(self, elf: 'Elf', *arguments: Any) -> None:
         self.elf, self._arguments = elf, arguments
@@ -261,33 +308,33 @@ class Table(Sequence[T]):
         return len(self._places)
 
     @overload
-    def __getitem__(self, index: int) -> T: ...
+    def __getitem__(self, index: int) -> E: ...
     @overload
-    def __getitem__(self, index: slice) -> List[T]: ...
+    def __getitem__(self, index: slice) -> List[E]: ...
 
-    def __getitem__(self, index: Union[int, slice]) -> Union[T, List[T]]:
+    def __getitem__(self, index: Union[int, slice]) -> Union[E, List[E]]:
         places = range(len(self))[index]
         if isinstance(places, range):
             return list(self._items(places.start, places.stop)) if places.step == 1 else [self[place] for place in places]
-        fields = self._read(self._places[places])
-        if fields is None:
+        item = self._get(places)
+        if item is None:
             raise IndexError(f'there is no item {places} any more')
-        return self._made(fields, places)
+        return item
 
-    def __setitem__(self, index: int, item: T) -> None:
+    def __setitem__(self, index: int, item: E) -> None:
         if not isinstance(item, self.item) or isinstance(item, (Note, Dyn)):
             raise TypeError(f'an item of a {type(self).__name__} can not be a {type(item).__name__}, or can not be written')
         place = range(len(self))[operator.index(index)]
         self._check(item, place)
-        struct = self.record.pack(self._raw(item))
-        if not self.elf._write(f'put_{self.one}', HEADER.pack(self.elf.header), *self._arguments, place, struct):
+        struct = self.record.pack_item(self._with_fields(item))
+        if not self.elf._write(f'put_{self.one}', HEADER.pack_item(self.elf.header), *self._arguments, place, struct):
             raise IndexError(f'there is no item {place} any more')
 
     def _start(self) -> int:
         """Returns the offset of the table."""
-        return RANGE.unpack(self._arguments[0])[0]
+        return int(RANGE.unpack(self._arguments[0])[0])
 
-    def _check(self, item: T, place: int) -> None:
+    def _check(self, item: E, place: int) -> None:
         """Refuses an item with a number that would be cut to the bits of its field. (One of more than 64 bits is none.)"""
         for field, (width, *places) in NARROW.items():
             value = getattr(item, field, 0)
@@ -295,7 +342,7 @@ class Table(Sequence[T]):
                 # (the library refuses it as such a number)
                 self.elf.put_number(self._start() + place * self.sizes[self.elf.is_64] + places[self.elf.is_64], width, value)
 
-    def __iter__(self) -> Iterator[T]:
+    def __iter__(self) -> Iterator[E]:
         return self._items(0, len(self))
 
     def __repr__(self) -> str:
@@ -310,27 +357,40 @@ class Table(Sequence[T]):
         filled = self._fill(0, items.ctypes.data, len(self))
         return items if filled == len(self) else items[:filled].copy()
 
-    def _items(self, first: int, end: int) -> Iterator[T]:
+    def _items(self, first: int, end: int) -> Iterator[E]:
         """Yields the items from an index to another one. It is written without a loop of Python, which takes longer."""
-        tables = itertools.repeat(self)
-        rows = (zip(*self._columns(chunk), range(start, end), tables) for start, chunk in self._chunks(first, end))
-        return map(tuple.__new__, itertools.repeat(self.item), itertools.chain.from_iterable(rows))
+        return itertools.chain.from_iterable(self._items_of(start, structs) for start, structs in self._chunks(first, end))
 
-    def _columns(self, chunk: memoryview) -> List[List[Any]]:
-        """Returns each field of the items of some structs as a list."""
-        return self.record.columns(chunk)
+    def _items_of(self, first: int, structs: memoryview) -> Iterator[E]:
+        """Yields the items of some structs, the first of which has an index. They are copied, so that its index follows each."""
+        words, count = self.record.size // 8, len(structs) // self.record.size
+        size = 1 << (count - 1).bit_length()
+        copied = bytearray(8 * (words + 1) * size)
+        items = array_of(self._class, size).from_buffer(copied)
+        items.table = self
+        numbers, to = structs.cast('Q'), memoryview(copied).cast('Q')[:(words + 1) * count]
+        for word in range(words):
+            to[word::words + 1] = numbers[word::words]
+        to[words::words + 1] = memoryview(array('Q', range(first, first + count)))
+        return itertools.islice(items, count)
 
-    def _read(self, place: int) -> Optional[Fields]:
-        """Reads the fields of a struct, or `None` if it is gone."""
-        return found(self.one, self.record, self.elf._image, *self._arguments, place)
+    def _get(self, index: int) -> Optional[E]:
+        """Reads an item, or `None` if it is gone."""
+        return self._find(index, self.one, *self._arguments, self._places[index])
 
-    def _made(self, fields: Fields, index: int) -> T:
-        """Returns the item of the fields of a struct."""
-        return tuple.__new__(self.item, (*fields, index, self))
+    def _find(self, index: Any, name: str, *arguments: Any) -> Optional[E]:
+        """Makes a call whose result is the struct of an item, and returns the item, or `None` at GOBLIN_END. The call may find the index."""
+        found = array_of(self._class, 1)()
+        if not call(name, self.elf._image, *arguments, found):
+            return None
+        found.table = self
+        item: E = found[0]
+        self._class.index.__set__(item, getattr(index, 'value', index))
+        return item
 
-    def _raw(self, item: T) -> Fields:
-        """Returns the fields of the struct of an item."""
-        return tuple(item[:-2])
+    def _with_fields(self, item: E) -> E:
+        """Returns an item each of whose fields is a number."""
+        return item
 
     def _chunks(self, first: int, end: int) -> Iterator[Tuple[int, memoryview]]:
         """Yields the structs from an index to another one, in chunks, each after the index that it begins at."""
@@ -338,7 +398,8 @@ class Table(Sequence[T]):
         while first < end:
             buffer = bytearray(min(end - first, CHUNK) * size)
             filled = self._fill(first, ctypes.addressof(ctypes.c_char.from_buffer(buffer)), len(buffer) // size)
-            yield first, memoryview(buffer)[:filled * size]
+            if filled:
+                yield first, memoryview(buffer)[:filled * size]
             first = first + filled if filled else end
 
     def _fill(self, first: int, address: int, capacity: int) -> int:
@@ -352,7 +413,7 @@ class Table(Sequence[T]):
         return filled.value
 
 
-class NamedTable(Table[T]):
+class NamedTable(Table[E]):
     """A table of items with names. Their structs begin with the offset of a name, which has 32 bits."""
     _known: Dict[int, str] = {}  # some names, by their offsets
     _window = range(0)  # the indexes of the items whose names were looked for last
@@ -360,24 +421,24 @@ class NamedTable(Table[T]):
     def names(self: Any, errors: str = 'strict') -> List[Optional[str]]:
         """Returns the names of all items in one pass: see `Strings.get_all`."""
         offsets = array('Q')
-        for _, chunk in self._chunks(0, len(self)):
-            offsets += self._offsets(chunk)
-        return list(self.strings._get_all(offsets, errors))
+        for _, structs in self._chunks(0, len(self)):
+            offsets += self._offsets(structs)
+        return list(self.strtab._get_all(offsets, errors))
 
-    def _offsets(self, chunk: memoryview) -> 'array[int]':
-        return array('Q', chunk.cast('I')[::self.record.size // 4].tolist())
+    def _offsets(self, structs: memoryview) -> 'array[int]':
+        return array('Q', self.record.column(self.record.fields[0], structs))
 
     def _learn(self: Any, index: int, offset: int) -> Optional[str]:
         """Returns a name that is not known. If names are asked for in order, of bytes that can't be written, it reads the next ones, too."""
         known: Dict[int, str] = {}
         if 0 <= index - self._window.stop < NEAR and self.elf._file.is_fixed:
             self._window = range(index, index + min(max(AHEAD, 2 * len(self._window)), CHUNK))
-            for _, chunk in self._chunks(index, min(self._window.stop, len(self))):
-                offsets = self._offsets(chunk)
-                known = self._known = dict(zip(offsets, self.strings._first(offsets, 0)))
+            for _, structs in self._chunks(index, min(self._window.stop, len(self))):
+                offsets = self._offsets(structs)
+                known = self._known = dict(zip(offsets, self.strtab._first(offsets, 0)))
         else:
             self._window = range(index, index + 1)
-        name: Optional[str] = known[offset] if offset in known else self.strings.get(offset)
+        name: Optional[str] = known[offset] if offset in known else self.strtab.get(offset)
         return name
 
 
@@ -389,9 +450,10 @@ class Sections(NamedTable[Section]):
         return self.elf.header.e_shoff
 
     @functools.cached_property
-    def strings(self) -> 'Strings':
+    def strtab(self) -> 'Strings':
         """The section names: an empty table if the file has none. Refused if the section headers are."""
-        return Strings(self.elf, *(found('names_section', self.record, self.elf._image) or (0, 0))[:2])
+        names = self._find(0, 'names_section')
+        return Strings(self.elf, *(names.sh_offset, names.sh_size) if names else (0, 0))
 
 
 class Segments(Table[Segment]):
@@ -403,15 +465,15 @@ class Symbols(NamedTable[Symbol]):
     """The symbols in a range of the file, with the string table of their names: none by default."""
     record, item, one, many, sizes = RECORDS['symbol'], Symbol, 'symbol', 'symbols', (SIZEOF_SYM32, SIZEOF_SYM64)
 
-    def __init__(self, elf: 'Elf', offset: int, size: int, strings: Optional['Strings'] = None) -> None:
+    def __init__(self, elf: 'Elf', offset: int, size: int, strtab: Optional['Strings'] = None) -> None:
         super().__init__(elf, RANGE.pack((offset, size)))
-        self.strings = strings or Strings(elf, 0, 0)
+        self.strtab = strtab or Strings(elf, 0, 0)
 
-    def find(self, name: Name, first: int = 0) -> Optional[Symbol]:
+    def symbol_by_name(self, name: Name, first: int = 0) -> Optional[Symbol]:
         """Returns the first symbol with a name, from an index on, or `None`. Refused as the strings are."""
-        return self.elf._search(self, 'symbol_by_name', *self._arguments, self.strings._range, *named(name), unsigned(first))
+        return self.elf._search(self, 'symbol_by_name', *self._arguments, self.strtab._range, *named(name), unsigned(first))
 
-    def at(self, address: int) -> Optional[Symbol]:
+    def symbol_by_address(self, address: int) -> Optional[Symbol]:
         """Returns the symbol that contains an address, or else a label at it or before it in its section, or `None`: see
         `goblin_symbol_by_address`. Each call reads all symbols. Refused if the section headers are."""
         index = self.elf._find_number('symbol_by_address', *self._arguments, unsigned(address))
@@ -425,20 +487,14 @@ class Relocations(Table[Relocation]):
     def __init__(self, elf: 'Elf', offset: int, size: int, is_rela: bool, section: Optional[Section] = None) -> None:
         super().__init__(elf, RANGE.pack((offset, size)), is_rela)
         self.section, self._is_rela = section, is_rela
+        self._class = Relocation._read if is_rela else WITHOUT_ADDEND
         self.sizes = (SIZEOF_RELA32, SIZEOF_RELA64) if is_rela else (SIZEOF_REL32, SIZEOF_REL64)
 
     @functools.cached_property
-    def symbols(self) -> Symbols:
-        """The symbols that they refer to: none if their section links to none. Refused as `Section.symbols` is."""
-        linked = self.section.linked if self.section else None
-        return linked.symbols if linked else Symbols(self.elf, 0, 0)
-
-    def _columns(self, chunk: memoryview) -> List[List[Any]]:
-        offset, symbol, addend, kind = super()._columns(chunk)
-        return [offset, symbol, addend if self._is_rela else [None] * len(addend), kind]
-
-    def _made(self, fields: Fields, index: int) -> Relocation:
-        return Relocation._make((*fields[:2], fields[2] if self._is_rela else None, fields[3], index, self))
+    def symtab(self) -> Symbols:
+        """The symbols that they refer to: none if their section links to none. Refused as `Section.symtab` is."""
+        linked = self.section.linked_section if self.section else None
+        return linked.symtab if linked else Symbols(self.elf, 0, 0)
 
     def _check(self, item: Relocation, place: int) -> None:
         super()._check(item, place)
@@ -448,8 +504,12 @@ class Relocations(Table[Relocation]):
             where = self._start() + place * self.sizes[is_64] + (SIZEOF_REL64 if is_64 else SIZEOF_REL32)
             raise refused(REFUSAL.pack((Kind.INTEGER_FIT, Item.ADDEND, 0, 0, 0, 0, where)))
 
-    def _raw(self, item: Relocation) -> Fields:
-        return item.r_offset, item.r_sym, item.r_addend or 0, item.r_type
+    def _with_fields(self, item: Relocation) -> Relocation:
+        return item.replace(r_addend=item.r_addend or 0)
+
+
+# The class of relocations that are read of a table without addends.
+WITHOUT_ADDEND = type(Relocation._read)('Relocation', (Relocation._read,), {'__slots__': (), '__module__': __name__, 'r_addend': None})
 
 
 class Dynamic(Table[Dyn]):
@@ -476,8 +536,8 @@ class Dynamic(Table[Dyn]):
         index = ctypes.c_uint64()
         return self.elf._find_number('dynamic_value', *self._arguments, unsigned(tag), 0, ctypes.byref(index))
 
-    def _read(self, place: int) -> Optional[Fields]:
-        return next((self.record.unpack(chunk) for _, chunk in self._chunks(place, place + 1) if chunk), None)
+    def _get(self, index: int) -> Optional[Dyn]:
+        return next(self._items(index, index + 1), None)
 
 
 # How names of notes are decoded. (In some files one holds numbers: .gnu.build.attributes.)
@@ -500,17 +560,18 @@ class Notes(Table[Note]):
     def _items(self, first: int, end: int) -> Iterator[Note]:
         return map(self.__getitem__, range(first, end))
 
-    def _made(self, fields: Fields, index: int) -> Note:
+    def _get(self, index: int) -> Optional[Note]:
+        arguments = self.record, self.elf._image, *self._arguments, self._places[index]
+        fields = found(self.one, *arguments)
         try:
-            return note_of(self.elf, fields, self._errors)
+            return note_of(self.elf, fields, self._errors) if fields else None
         except UnicodeDecodeError:  # (as in `Strings.get`)
-            strict = found('note_utf8', self.record, self.elf._image, *self._arguments, self._places[index])
-            return note_of(self.elf, strict or fields)
+            return note_of(self.elf, found('note_utf8', *arguments) or fields or ())
 
 
 def note_with(n_type: int, name: str, desc: bytes) -> Note:
     """Returns a note that was pickled."""
-    return Note(n_type, name, memoryview(desc))
+    return Note(n_type=n_type, name=name, desc=memoryview(desc))
 
 
 def read_notes(elf: 'Elf', name: str, place: bytes, alignment: int, offset: int) -> Iterator[Fields]:
@@ -523,7 +584,7 @@ def read_notes(elf: 'Elf', name: str, place: bytes, alignment: int, offset: int)
 def note_of(elf: 'Elf', fields: Fields, errors: str = 'strict') -> Note:
     """Returns the note of the fields of a struct."""
     name = bytes(elf._file.part(*fields[:2])) if errors == 'strict' else name_of_note(elf, fields).rstrip(b'\0')
-    return Note(fields[5], str(name, 'utf-8', errors), elf._file.part(*fields[2:4]))
+    return Note(n_type=fields[5], name=str(name, 'utf-8', errors), desc=elf._file.part(*fields[2:4]))
 
 
 def name_of_note(elf: 'Elf', fields: Fields) -> bytes:
@@ -554,7 +615,7 @@ class Strings:
         place = found('string', RANGE, self._image, self._range, unsigned(offset))
         return bytes(self._file.part(*place)) if place else None
 
-    def get_closed(self, offset: int) -> Optional[bytes]:
+    def get_closed_bytes(self, offset: int) -> Optional[bytes]:
         """Returns the bytes of the string at an offset, as `get_bytes` does, if a zero byte of the table closes it: `None` if it ends with the
         table."""
         place = found('string_closed', RANGE, self._image, self._range, unsigned(offset))
@@ -594,14 +655,14 @@ class Strings:
 
     def _get_all(self, offsets: 'array[int]', errors: str) -> List[Optional[str]]:
         texts: List[Optional[str]] = []
-        left = most = max(TEXTS, OVERLAPS * self.size)
+        left = max(TEXTS, OVERLAPS * self.size)
         if not self._are_short():
-            return self._get_each_once(offsets, errors, most)
+            return self._get_each_once(offsets, errors, self._closed)
         while len(texts) < len(offsets):
             some = self._first(offsets, len(texts), errors)
             left -= sum(map(len, some))
             if left < 0:
-                return self._get_each_once(offsets, errors, most)
+                return self._get_each_once(offsets, errors, self._closed)
             texts += some
             texts += [self._closed(offset, errors) for offset in offsets[len(texts):len(texts) + 1]]
         return texts
@@ -616,21 +677,22 @@ class Strings:
             at += place + 1
         return True
 
-    def _get_each_once(self, offsets: 'array[int]', errors: str, most: int) -> List[Optional[str]]:
-        """Returns the strings at offsets, of which those at the same one are the same object."""
+    def _get_each_once(self, offsets: Sequence[int], errors: str, read: Callable[[int, str], Optional[str]]) -> List[Optional[str]]:
+        """Returns the strings at offsets as a function reads them, of which those at the same one are the same object."""
         known: Dict[int, Optional[str]] = {}
+        left = max(TEXTS, OVERLAPS * self.size)
         for offset in offsets:
             if offset not in known:
-                known[offset] = text = self._closed(offset, errors)
-                most -= len(text or '')
-                if most < 0:
+                known[offset] = text = read(offset, errors)
+                left -= len(text or '')
+                if left < 0:
                     said = f'Strings at {len(known)} offsets of their table have more than {OVERLAPS} times its bytes: {self.size}'
                     raise Refused(said, Kind.OVERLAP, 0, (len(known), self.size), self.offset)
         return [known[offset] for offset in offsets]
 
     def _closed(self, offset: int, errors: str) -> Optional[str]:
         """Returns a string as `get` does. Refused also if no zero byte of the table closes it."""
-        if offset < self.size and self.get_closed(offset) is None:
+        if offset < self.size and self.get_closed_bytes(offset) is None:
             raise Refused(f'No zero byte closes the string at offset {offset} of its table', Kind.OPEN_STRING, 0, (offset,), self.offset + offset)
         return self.get(offset, errors)
 

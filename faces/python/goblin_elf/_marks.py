@@ -2,10 +2,10 @@
 import re
 from typing import Callable, Dict, Iterator, List, Optional, Set, Tuple
 
+from ._elf import Elf
+from ._items import Strings, Symbols
+from ._refused import Refused, Unknown, within
 from .constants import EM_386, EM_AARCH64, EM_X86_64, SHT_DYNSYM, SHT_SYMTAB
-from .elf import Elf
-from .items import Strings, Symbols
-from .refused import Refused, Unknown, within
 
 # The functions and the variable that a canary uses, with or without a version, of which at most 255 bytes are read.
 CANARY = re.compile(rb'__stack_chk_(?:fail_local|fail|guard)(?:@[^\0]{0,255})?')
@@ -24,10 +24,10 @@ def has_canary(elf: Elf, is_static: Callable[[], bool]) -> bool:
     there is no table that would have it: a static program need not list it among its dynamic symbols."""
     errors: List[Exception] = []
     try:
-        for name in ('symbols', 'dynamic_symbols'):
+        for name in ('syms', 'dynsyms'):
             try:
                 symbols: Symbols = getattr(elf, name)
-                if any(map(symbols.find, canaries_of(elf, symbols.strings))):
+                if any(map(symbols.symbol_by_name, canaries_of(elf, symbols.strtab))):
                     return True
             except (Refused, Unknown) as error:
                 errors.append(error)
@@ -68,6 +68,6 @@ def control_flow(elf: Elf) -> Optional[List[str]]:
 
 def compilers(elf: Elf) -> List[str]:
     """Returns the names that compilers left in the section .comment, each once."""
-    section = elf.section('.comment')
-    texts = str(within(BYTES, section.bytes), 'utf-8', 'surrogateescape').split('\0') if section else []
+    section = elf.section_by_name('.comment')
+    texts = str(within(BYTES, section.data), 'utf-8', 'surrogateescape').split('\0') if section else []
     return [text for text in dict.fromkeys(texts) if text and not text.startswith(LINKERS)]

@@ -1,7 +1,7 @@
 """Why a file is refused."""
 from typing import Optional, Sized, Tuple, TypeVar
 
-from .interface import NUMBERS, Item, Kind
+from ._interface import NUMBERS, Item, Kind
 
 S = TypeVar('S', bound=Sized)
 

@@ -6,11 +6,11 @@ import itertools
 from typing import Any, Callable, Dict, Iterator, List, Optional, Tuple
 
 from . import constants as abi
-from .elf import SEGMENTS, Elf
-from .items import Dynamic, Relocations, Section, Segment, Strings, T, Table
-from .marks import compilers, control_flow, has_canary
-from .names import class_to_str
-from .refused import Refused, Unknown, within
+from ._elf import SEGMENTS, Elf
+from ._items import Dynamic, E, Relocations, Section, Segment, Strings, Table
+from ._marks import compilers, control_flow, has_canary
+from ._names import class_to_str
+from ._refused import Refused, Unknown, within
 
 # The most that a fact is made of: entries of a dynamic section, or tables of relocations, bytes of a text and of a build ID, sections,
 # characters of all names, and relocations; and the most sections, segments and symbols in which one is looked for.
@@ -31,14 +31,14 @@ class Parts(Elf):
 
     @functools.cached_property
     def own_segments(self) -> List[Segment]:
-        return within(SEGMENTS, self.segments)[:]
+        return within(SEGMENTS, self.program_headers)[:]
 
-    def _search(self, table: Table[T], name: str, *arguments: Any) -> Optional[T]:
+    def _search(self, table: Table[E], name: str, *arguments: Any) -> Optional[E]:
         return super()._search(within(SEARCHED, table), name, *arguments)
 
     def _dynamic_place(self) -> Optional[Tuple[int, ...]]:
-        if not within(SEARCHED, self.segments):
-            within(SEARCHED, self.sections)
+        if not within(SEARCHED, self.program_headers):
+            within(SEARCHED, self.section_headers)
         return super()._dynamic_place()
 
     def has_segment(self, p_type: int, flags: int = 0) -> bool:
@@ -47,7 +47,7 @@ class Parts(Elf):
 
     def own_sections(self) -> Iterator[Section]:
         """Yields the sections. (The first header is of none: its size may be the number of sections.)"""
-        return itertools.islice(within(SECTIONS, self.sections), 1, None)
+        return itertools.islice(within(SECTIONS, self.section_headers), 1, None)
 
     @functools.cached_property
     def kind(self) -> str:
@@ -66,7 +66,7 @@ class Parts(Elf):
     @functools.cached_property
     def entries(self) -> Dynamic:
         """The dynamic section. It is unknown if its bytes are in another file, as those of a debug file."""
-        return within(ENTRIES, None if (place := self._dynamic_place()) and place[1] == 0 and self.segments else self.dynamic)
+        return within(ENTRIES, None if (place := self._dynamic_place()) and place[1] == 0 and self.program_headers else self.dynamic_section)
 
     def says(self, marks: Dict[int, int]) -> bool:
         """Whether the first entry with one of some tags has its flag, if one is given."""
@@ -79,24 +79,24 @@ class Parts(Elf):
                                        (abi.DT_JMPREL, abi.DT_PLTRELSZ, says(abi.DT_PLTREL) == abi.DT_RELA)):
             address, size = says(tag), says(size_tag)
             if address is not None and size:
-                offset = self.offset_of(address)
+                offset = self.address_to_offset(address)
                 if offset is None:
                     raise Unknown
                 yield Relocations(self, offset, size, is_rela), tag == abi.DT_JMPREL
         if not self.entries:
-            if self.has_segment(abi.PT_INTERP) or not self.sections:
+            if self.has_segment(abi.PT_INTERP) or not self.section_headers:
                 raise Unknown
             loaded = [section for section in self.own_sections() if section.sh_type in (abi.SHT_RELA, abi.SHT_REL)
                       and section.sh_flags & ALLOC]
-            yield from ((section.relocations, False) for section in within(ENTRIES, loaded))
+            yield from ((section.relocs, False) for section in within(ENTRIES, loaded))
 
     def slots(self) -> Iterator[int]:
         """Yields the addresses of what relocations write and calls go through. It is unknown for a machine whose numbers are not here."""
         kinds, left = within(ENTRIES, IRELATIVE.get(self.header.e_machine)), RELOCATIONS
         for table, is_called in self.tables():
             left -= len(within(left, table))
-            for _, chunk in table._chunks(0, len(table)):
-                offsets, _, _, types = table._columns(chunk)
+            for _, structs in table._chunks(0, len(table)):
+                offsets, types = (table.record.column(field, structs) for field in ('r_offset', 'r_type'))
                 yield from (offset for offset, kind in zip(offsets, types) if is_called or kind in kinds)
 
     def relro(self) -> str:
@@ -107,17 +107,21 @@ class Parts(Elf):
         (low, high), size = held[-1], 8 if self.is_64 else 4
         return 'full' if all(low <= slot and slot + size <= high for slot in self.slots()) else 'partial'
 
-    def _names(self, tag: int) -> Iterator[str]:
+    def texts(self, tag: int) -> Iterator[str]:
+        """Yields the strings of the entries with a tag."""
         left = NAMES
-        for entry in (entry for entry in self.entries if entry.tag == tag):
-            name = within(left, text(self.entries.strings, entry.value) or entry.string)
+        for entry in (entry for entry in self.entries if entry.d_tag == tag):
+            name = within(left, text(self.entries.strings, entry.d_val) or entry.string)
             left -= len(name)
             yield name
+
+    def first_text(self, tag: int) -> Optional[str]:
+        return next(self.texts(tag), None)
 
     def is_cut(self) -> bool:
         """Whether the headers, or the bytes of a section or a segment, are not all in the file. A debug file lacks those of its segments."""
         with contextlib.suppress(Refused):
-            segments = [segment[:2] for segment in self.own_segments if segment.p_type != abi.PT_NULL and self.kind != 'debug file']
+            segments = [segment._place for segment in self.own_segments if segment.p_type != abi.PT_NULL and self.kind != 'debug file']
             sections = (section._place for section in self.own_sections() if section.sh_type != abi.SHT_NULL)
             return any(size > 0 and offset + size > self._file.length for offset, size in itertools.chain(segments, sections))
         return True
@@ -146,17 +150,17 @@ FACTS: Dict[str, Callable[[Parts], Any]] = {
     'order': lambda of: 'little' if of.little_endian else 'big', 'machine': lambda of: of._machine,
     'entry': lambda of: of.header.e_entry,
     'build_id': lambda of: None if (found := of._note(abi.NT_GNU_BUILD_ID)) is None else within(ID, found).hex(),
-    'interpreter': lambda of: next((within(TEXT, text(path.strings, 0)) for path in of.own_segments if path.p_type == abi.PT_INTERP), None),
-    'soname': lambda of: of.soname, 'rpath': lambda of: of.rpath, 'runpath': lambda of: of.runpath,
-    'needed': lambda of: list(of._names(abi.DT_NEEDED)),
+    'interpreter': lambda of: next((within(TEXT, text(path.strtab, 0)) for path in of.own_segments if path.p_type == abi.PT_INTERP), None),
+    'soname': lambda of: of.first_text(abi.DT_SONAME), 'rpath': lambda of: of.first_text(abi.DT_RPATH),
+    'runpath': lambda of: of.first_text(abi.DT_RUNPATH), 'needed': lambda of: list(of.texts(abi.DT_NEEDED)),
     'pie': lambda of: of.header.e_type == abi.ET_DYN and of.says(PIE),
     'nx': lambda of: of.has_segment(abi.PT_GNU_STACK) and not of.has_segment(abi.PT_GNU_STACK, abi.PF_X),
     'relro': Parts.relro,
     'bind_now': lambda of: None if of.is_static() or not of.entries else of.says(NOW),
     'writable_code': lambda of: of.has_segment(abi.PT_LOAD, abi.PF_W | abi.PF_X),
     'canary': lambda of: has_canary(of, of.is_static), 'control_flow': control_flow, 'compilers': compilers,
-    'stripped': lambda of: of.section_by_type(abi.SHT_SYMTAB) is None, 'cut': Parts.is_cut, 'sections': lambda of: len(of.sections),
-    'segments': lambda of: len(of.segments), 'symbols': lambda of: len(of.symbols), 'dynamic_symbols': lambda of: len(of.dynamic_symbols),
+    'stripped': lambda of: of.section_by_type(abi.SHT_SYMTAB) is None, 'cut': Parts.is_cut, 'sections': lambda of: len(of.section_headers),
+    'segments': lambda of: len(of.program_headers), 'symbols': lambda of: len(of.syms), 'dynamic_symbols': lambda of: len(of.dynsyms),
     'sizes': Parts.sizes}
 
 
