@@ -59,8 +59,8 @@ quietly env TARGET=wasm64-unknown-unknown LIBRARY=symbols sh faces/install.sh "$
 ends_with 0 '' find "$folder/installed" -name '*.orig'
 # (files of an earlier installation by sudo are root's)
 if restricted true 2> "$folder/output"; then
-    echo 'earlier' > faces/python/goblin_elf/names.py
-    chmod a-w faces/python/goblin_elf/names.py
+    echo 'earlier' > faces/python/goblin_elf/_names.py
+    chmod a-w faces/python/goblin_elf/_names.py
     quietly restricted env TARGET=wasm64-unknown-unknown LIBRARY=symbols sh faces/install.sh "$folder/installed"
     mkdir -p out/library
     chmod a-w out/library
