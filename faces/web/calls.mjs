@@ -524,9 +524,9 @@ check('All notes have names of any bytes, and a build ID may be in a section alo
         const damaged = Elf.parse(patched(content, [at, 64, 4]));
         throw_all(is_refusal(kind, BigInt(size_at)), () => damaged.iter_note_sections(), () => damaged.build_id());
     }
-    // the ID is known up to 65,536 notes, of which its segment is one, and past them it is not looked for
+    // the first 65,536 notes are read
     const before = note('ABC', 1, Buffer.alloc(0));
-    assert.deepEqual([65534, 65535].map((count) => build_id(noted_file([...times(count, () => before), id]))),
+    assert.deepEqual([65535, 65536].map((count) => build_id(noted_file([...times(count, () => before), id]))),
         ['of ld', '']);
 });
 

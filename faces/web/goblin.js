@@ -33,7 +33,7 @@
  * for (const section of elf.section_headers()) console.log(elf.section_name(section), section.sh_size);
  * ``` */
 import {
-    DF_1_PIE, DT_FLAGS_1, DT_NEEDED, DT_RPATH, DT_RUNPATH, DT_SONAME, DT_SYMTAB, ET_DYN, ET_REL, NT_GNU_BUILD_ID,
+    DF_1_PIE, DT_FLAGS_1, DT_NEEDED, DT_RPATH, DT_RUNPATH, DT_SONAME, DT_SYMTAB, ET_DYN, ET_REL,
     PT_DYNAMIC, PT_GNU_EH_FRAME, PT_GNU_RELRO, PT_GNU_STACK, PT_INTERP, PT_LOAD, PT_NOTE, PT_PHDR, PT_TLS, SHF_ALLOC,
     SHF_TLS, SHN_LORESERVE, SHN_UNDEF, SHN_XINDEX, SHT_DYNSYM, SHT_NOBITS, SHT_NOTE, SHT_REL, SHT_RELA, SHT_SYMTAB,
     STT_FUNC, STT_GNU_IFUNC, STT_NOTYPE, STT_OBJECT, VERSION,
@@ -157,7 +157,7 @@ const plain = (item) => Object.defineProperty(item, 'toJSON', TO_JSON);
 const PAGE = 0x10000;
 
 // How many items are read at once. And the most segments, and notes, in which a build ID is looked for.
-const BATCH = 64, MOST_SEGMENTS = 1 << 17, MOST_NOTES = 1 << 16;
+const BATCH = 64;
 
 // The offsets of what this file puts after the library's own data: the goblin_file_t, one whose header counts what is
 // whole, a refusal, a result, an argument, a second argument, an index, a buffer for items or a text, and the file.
@@ -879,29 +879,15 @@ export class Elf {
 
     /** Returns the build ID: the descriptor of the first note `GNU` of type NT_GNU_BUILD_ID of the segments of notes
      * or, if they have none, of the sections of notes. Returns `undefined` if there is none. Throws if the headers are
-     * not inside the file, and then at the first damaged note. It is looked for in at most 131,072 segments, and in the
-     * first 65,536 of their notes, these sections and their notes.
+     * not inside the file, and then at the first damaged note. Of all these notes the first 65,536 are read.
      *
      * ```js
      * console.log(Buffer.from(elf.build_id() ?? []).toString('hex'));
      * ```
      * @type {() => Uint8Array | undefined} */
     build_id() {
-        if (this.program_headers().length > MOST_SEGMENTS) return undefined;
-        let left = MOST_NOTES;
-        for (const holders of [() => this.#segments_of_notes(), () => this.#sections_of_notes()]) {
-            for (const holder of holders()) {
-                // (a segment or section counts as a note, which comes before its own)
-                if (left-- === 0) return undefined;
-                const { notes, refusal } = this.readable_notes_bytes(holder, left + 1), read = notes.slice(0, left);
-                const found = read.find((item) => item.n_type === NT_GNU_BUILD_ID && item.name_range.size === 4n
-                    && String.fromCharCode(...item.name) === 'GNU\0');
-                if (found || notes.length > left) return found?.desc;
-                if (refusal) throw refusal;
-                left -= notes.length;
-            }
-        }
-        return undefined;
+        const range = this.#call('goblin_build_id', 'range');
+        return range && this.#memory.bytes(range);
     }
 }
 

@@ -14,7 +14,7 @@ from ._items import (ESCAPED, Dynamic, E, Fields, Header, Name, Note, Relocation
 from ._library import FILE, FUNCTIONS, HEADER, RANGE, File, call, found, unsigned
 from ._names import class_to_str, et_to_str, machine_to_str
 from ._refused import Unknown, within
-from .constants import (DT_NEEDED, DT_RPATH, DT_RUNPATH, DT_SONAME, ELFCLASS64, ELFDATA2MSB, NT_GNU_BUILD_ID, PT_INTERP, PT_NOTE, SHT_DYNSYM,
+from .constants import (DT_NEEDED, DT_RPATH, DT_RUNPATH, DT_SONAME, ELFCLASS64, ELFDATA2MSB, PT_INTERP, PT_NOTE, SHT_DYNSYM,
                         SHT_NOTE, SHT_SYMTAB)
 
 # (before Python 3.9 it takes no type)
@@ -183,11 +183,10 @@ class Elf:
     @property
     def build_id(self) -> Optional[memoryview]:
         """The descriptor of the first note GNU of type NT_GNU_BUILD_ID of the segments or, if they have none, of the sections, or `None`.
-        Refused as these are, and then at the first damaged note. It is looked for in at most 131,072 segments, and in the first 65,536 of their
-        notes, these sections and their notes. Names of other notes need not be UTF-8."""
-        with contextlib.suppress(Unknown):
-            return self._note(NT_GNU_BUILD_ID)
-        return None
+        Refused as these are, and then at the first damaged note. Of all these notes the first 65,536 are read. Names of other notes need not be
+        UTF-8."""
+        place = found('build_id', RANGE, self._image)
+        return None if place is None else self._file.part(*place)
 
     def _note(self, n_type: int) -> Optional[memoryview]:
         """Returns the descriptor of the first note GNU of a type, or `None`. Raises `Unknown` if it may come after all that is read."""
