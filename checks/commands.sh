@@ -10,6 +10,13 @@ refuses() {
     case $said in *Traceback* | *proving*) fail "it should print neither a traceback nor that it proves, and prints '$said': $*" ;; esac
 }
 
+# Makes a command of one line: makes FILE LINE
+makes() {
+    mkdir -p "${1%/*}"
+    printf '#!/bin/sh\n%s\n' "$2" > "$1"
+    chmod +x "$1"
+}
+
 # Runs a command as a user who can't write into the copy.
 elsewhere() { if [ "$(id -u)" -ne 0 ]; then "$@"; else setpriv --reuid=65534 --regid=65534 --clear-groups env "$@"; fi; }
 
@@ -57,25 +64,20 @@ if restricted true 2> "$folder/output"; then
     quietly restricted env TARGET=wasm64-unknown-unknown LIBRARY=symbols sh faces/install.sh "$folder/installed"
     mkdir -p out/library
     chmod a-w out/library
-    printf '#!/bin/sh\nexit 1\n' > "$folder/rt"
-    chmod +x "$folder/rt"
+    makes "$folder/failing/rt" 'exit 1'
     refuses 'out/library is read-only, and the library is made there. Use a copy' \
-        restricted env PATH="$folder:$PATH" sh faces/install.sh "$folder/installed"
+        restricted env PATH="$folder/failing:$PATH" sh faces/install.sh "$folder/installed"
     chmod u+w out/library
 fi
 
 for command in realpath tar; do
-    mkdir "$folder/$command"
-    printf '#!/bin/sh\nexit 1\n' > "$folder/$command/$command"
-    chmod +x "$folder/$command/$command"
+    makes "$folder/$command/$command" 'exit 1'
     refuses "goblin_c: the command $command takes no option *" env PATH="$folder/$command:$PATH" sh faces/install.sh --archive
 done
 
 # (a python3 may be too old, or fail before it reads a line)
-mkdir "$folder/python"
 refuses_python() {
-    printf '#!/bin/sh\n%s\n' "$2" > "$folder/python/python3"
-    chmod +x "$folder/python/python3"
+    makes "$folder/python/python3" "$2"
     refuses "*make try: $1*" env PATH="$folder/python:$PATH" SHOWN=symbols sh commands/show.sh try
 }
 refuses_python 'the command python3 fails. ' 'exit 1'
@@ -129,14 +131,11 @@ else
     left_out 'no user who is not root can run rt, so nothing is tried in a read-only folder'
 fi
 chmod -R u+w .
-printf '#!/bin/sh\nexit 1\n' > rt
-chmod +x rt
 # (a CDPATH of the environment may name a folder with such crates)
-mkdir "$folder/other" "$folder/lists"
+mkdir "$folder/other"
 touch crates/goblin_show/stdin
 cp -R crates "$folder/other/"
-printf '#!/bin/sh\npwd >> "%s"\n' "$folder/places" > "$folder/lists/rt"
-chmod +x "$folder/lists/rt"
+makes "$folder/lists/rt" "pwd >> '$folder/places'"
 for command in 'commands/libraries.sh proof goblin_show' 'commands/show.sh show' 'faces/install.sh installed'; do
     # shellcheck disable=SC2086 # (they are words)
     env PATH="$folder/lists:$PATH" CDPATH="$folder/other" SHOWN=symbols sh $command > "$folder/output" 2>&1 || :
@@ -146,7 +145,7 @@ ends_with 1 '' grep -F "$folder/other/" "$folder/places"
 # (a toolchain that runs fewer tests than there are, and a subject of a test whose shell is killed)
 tests=$(grep -rF '#[test]' crates/goblin_text_tests/src | wc -l)
 for count in 1 "$tests"; do
-    printf '#!/bin/sh\necho "test result: ok. %s passed; 0 failed; 0 ignored; 0 filtered out"\n' "$count" > "$folder/lists/rt"
+    makes "$folder/lists/rt" "echo 'test result: ok. $count passed; 0 failed; 0 ignored; 0 filtered out'"
     case $count in 1) wanted="1-*not all $tests tests of *" ;; *) wanted="0-*$tests tests pass" ;; esac
     ends_with "${wanted%%-*}" "${wanted#*-}" env PATH="$folder/lists:$PATH" sh checks/prove.sh goblin_text_tests
 done
@@ -157,6 +156,7 @@ echo : > checks/faces/whole.sh
 ends_with 0 '' try lists/whole
 ends_with 1 '*killed FAILED' try lists/killed
 echo '//' >> commands/try.main
-refuses "*make try: the program was not compiled; the toolchain's messages are above" env PATH="$PWD:$PATH" XDG_CACHE_HOME="$folder" SHOWN=symbols \
-    sh commands/show.sh try
+makes "$folder/failing/rt" 'exit 1'
+refuses "*make try: the program was not compiled; the toolchain's messages are above" \
+    env PATH="$folder/failing:$PATH" XDG_CACHE_HOME="$folder" SHOWN=symbols sh commands/show.sh try
 echo "commands refuse in a sentence what they can't do, a proof says what it waits for, and a second make try compiles nothing"

@@ -80,18 +80,8 @@ test_in() {
 }
 
 [ $# -gt 0 ] || set -- plain bare+homeless+two locale+user+spaces all
-for name in $(echo "$*" | tr + ' '); do
-    case $name in
-    plain | bare | locale | homeless | user | spaces | two | all) ;;
-    *)
-        echo "surroundings: there is no $name" >&2
-        exit 2
-        ;;
-    esac
-done
+unknown=$(echo "$*" | tr ' +' '\n' | grep -vxE 'plain|bare|locale|homeless|user|spaces|two|all' || :)
+[ -z "$unknown" ] || { echo "surroundings: there is no $unknown" >&2; exit 2; }
 for names; do test_in "$names"; done
-if [ "$failed" ]; then
-    echo "surroundings: FAILED in$failed"
-    exit 1
-fi
+[ -z "$failed" ] || { echo "surroundings: FAILED in$failed"; exit 1; }
 echo 'surroundings: all passed'
