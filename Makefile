@@ -1,7 +1,5 @@
-# The commands of this repository, which `make help` lists. They need git, awk, Python 3.8 or later, and the Rattle toolchain (`rt`). The
-# tests skip what needs a compiler that the machine lacks, and say so.
-
-# Prints README's table of commands.
+# The commands of this repository. README has a table of them, which `make help` prints. They need git, awk, Python 3.8 or later, and the Rattle
+# toolchain (`rt`). The tests skip what needs a compiler that the machine lacks, and say so.
 help:
 	@command -v awk > /dev/null || { echo 'make help: the command awk was not found. The table is in README.md' >&2; exit 2; }
 	@awk -F '|' '/^\|`make / { gsub(/`/, ""); printf "%-38s %-40s %s\n", $$2, $$4, $$3 }' README.md
@@ -11,34 +9,25 @@ export SHOWN := $(value FILE)
 export MODE
 unexport FILE
 
-# Takes over nothing that an earlier run reached, if ANEW is set.
+# ANEW=1 takes over nothing that an earlier run reached.
 ANEWLY = $(if $(ANEW),--anew)
-
-# Ends with a sentence that says what to install, if a command is missing.
 has_rt = @sh commands/has.sh 'make $@' git awk python3 rt
 
-# Shows a file by the program without a proof, or by the proved one if it is built: make try FILE=/bin/true [MODE=permissive]
-try:
-	@sh commands/show.sh try
+# Shows a file: make show FILE=/bin/true [MODE=permissive]. `try` runs the program without a proof, unless the proved one is built; `show` first
+# proves the crates of the program that are not proved yet, and builds it. Both end with 0 if the file is shown or refused, and with 2 if it
+# can't be read, or the output can't be written, or a proof fails.
+try show:
+	@sh commands/show.sh $@
 
-# Proves the crates of the program that are not proved yet, builds it, and shows a file: make show FILE=/bin/true [MODE=permissive]
-# Both end with 0 if the file is shown or refused. They end with 2 if it can't be read, or the output can't be written, or a proof fails.
-show:
-	@sh commands/show.sh show
-
-# Tests all, but doesn't prove the tests themselves. First come checks that take seconds: of the pages, the scripts, and whether the edits
-# fit the code. Then run side by side, about as many as there are processors: the proof of each crate; the tests; the program over real and
-# hostile files; calls of the library from C, Rust, JavaScript and Python; the edits of must-fail/ and controls/; and allocations that are
-# refused. The last lines are a table of what each part took. commands/surroundings.sh runs them in other surroundings, with OVER, a folder
-# that was tested before: its proofs are taken over, and edits are left out.
+# Tests all, but doesn't prove the tests themselves: checks/gate.py lists the parts. commands/surroundings.sh runs them in other surroundings,
+# with OVER, a folder that was tested before: its proofs are taken over, and edits are left out.
 test:
 	$(has_rt)
 	@python3 checks/gate.py test $(ANEWLY) $(if $(filter command%,$(origin OVER)),--over '$(OVER)')
 
-# Tests all, and proves the tests too: they and must-fail/ are left to the toolchain's own gate, `rt ci`, which proves all from nothing once
-# more. All other edits are tried, and so is the script that tries them. JOBS and UNBUILT are for checks/prove.sh: one process takes least.
-# What an earlier run on this machine reached over the same sources is taken over (checks/kept.py): a release is made from a run with ANEW=1,
-# which takes over nothing: make gate [ANEW=1]. So may be `make test` and `make edits`.
+# Tests all, and proves the tests too: they and must-fail/ are left to the toolchain's own gate, `rt ci`. What an earlier run on this machine
+# reached over the same sources is taken over (checks/kept.py): a release is made from a run with ANEW=1. JOBS and UNBUILT are for
+# checks/prove.sh: one process takes least.
 gate:
 	$(has_rt)
 	@JOBS=1 UNBUILT=1 python3 checks/gate.py gate $(ANEWLY)
@@ -54,20 +43,18 @@ compare:
 	$(has_rt)
 	@sh bench/compare.sh
 
-# Tries the edits alone, over proofs that earlier checks in the crates' folders cached: make edits [CRATES=goblin_base] [EDIT=one_early]
-# CRATES names crates, and EDIT an edit by its file's name. FROM=/tmp/bugs tries those of another folder, which has a folder for each crate.
+# Tries the edits alone: make edits [CRATES=goblin_base] [EDIT=one_early] [FROM=/tmp/bugs]. EDIT is an edit by its file's name, and FROM another
+# folder of edits, which has a folder for each crate.
 edits:
 	$(has_rt)
 	@python3 checks/gate.py edits $(ANEWLY) $(CRATES) $(if $(FROM),--from '$(FROM)') $(if $(EDIT),--edit '$(EDIT)')
 
-# Checks each crate with half of the search's limits, and lists the functions that stay open and the ten slowest: make margin
-# [CRATES=goblin_base]
+# Checks crates with half of the search's limits, and lists the functions that stay open and the ten slowest: make margin [CRATES=goblin_base]
 margin:
 	$(has_rt)
 	@python3 checks/margin.py $(CRATES)
 
-# Times the program, once it is built, beside readelf: over files that ask for much work, over a FILE, and over files of this machine. Then
-# times calls of the library: make bench [FILE=/bin/true]
+# Times the program, once it is built, beside readelf, and calls of the library: make bench [FILE=/bin/true]
 bench:
 	$(has_rt)
 	@python3 bench/program.py $(if $(value FILE),"$$SHOWN")
