@@ -26,8 +26,8 @@ import time
 from dataclasses import dataclass
 
 sys.dont_write_bytecode = True
-from crates import crates_listed, fail, run, tracked
-from kept import alone, keep_proof, take, take_proof
+from crates import copy_files, crates_listed, fail, run, text_of, tracked, with_those_below
+from kept import Kept, alone, take
 
 LOGS = 'out/log'
 # What a part says of what it took over from earlier runs.
@@ -51,19 +51,18 @@ class Part:
     seconds: float = 0
     status: int = None
 
-    def log(self, mode='r'):
-        return open(f'{LOGS}/{self.name.replace(" ", "-")}', mode, encoding='utf-8', errors='replace')
+    @property
+    def log(self):
+        return f'{LOGS}/{self.name.replace(" ", "-")}'
 
-    def printed(self, start):
+    def printed(self, start=''):
         """The lines that it printed so far and that begin so."""
-        return [line.rstrip() for line in self.log() if line.startswith(start)]
+        return [line for line in text_of(self.log).splitlines() if line.startswith(start)]
 
 
 def copied(folder, cached=None):
     """Copies the repository's files, and what checks have cached of the crates of another copy, if one is given."""
-    for path in tracked():
-        os.makedirs(os.path.dirname(f'{folder}/{path}'), exist_ok=True)
-        shutil.copy(path, f'{folder}/{path}')
+    copy_files(tracked(), folder)
     for crate in crates_listed() if cached else []:
         take(crate, cached, folder)
     return folder
@@ -71,8 +70,8 @@ def copied(folder, cached=None):
 
 def prove(crate, anew):
     """Proves a crate over those below it that are proved here, and over what an earlier proof of the same sources cached."""
-    is_from_nothing = not os.path.isdir(f'crates/{crate}/out')
-    is_kept = is_from_nothing and not anew and take_proof(crate)
+    is_from_nothing, kept = not os.path.isdir(f'crates/{crate}/out'), Kept(crate)
+    is_kept = is_from_nothing and not anew and kept.take_proof()
     with tempfile.TemporaryDirectory(prefix='proof-', dir='..') as room:
         folder = alone(crate, room)
         status = subprocess.run(['sh', os.path.abspath('checks/prove.sh'), crate], cwd=room).returncode
@@ -82,12 +81,15 @@ def prove(crate, anew):
             if is_kept:
                 print(f'{crate}: proved, over what an earlier run kept')
             elif is_from_nothing:
-                keep_proof(crate)
+                kept.keep_proof()
     return status
 
 
 # What `make gate` leaves to `rt ci`, which proves and runs it too. (Long tests take minutes without a proof, with checks of each access.)
 LEFT = ('goblin_allocation_tests', 'goblin_long_tests', 'goblin_names', 'goblin_show')
+
+# The folders of a crate that hold edits.
+KINDS = ('edits', 'must-fail', 'controls')
 
 # What takes seconds. All else waits for it.
 QUICK = {'lint': f'{PYTHON} checks/lint', 'whether edits fit': f'{PYTHON} checks/edits --fits', 'views': 'sh checks/views.sh'}
@@ -95,11 +97,9 @@ QUICK = {'lint': f'{PYTHON} checks/lint', 'whether edits fit': f'{PYTHON} checks
 
 def proofs(crates, copy, anew, after=()):
     """The proofs of these crates and of those below them."""
-    listed = crates_listed()
-    wanted = [crate for crate in listed if any(crate in {one, *listed[one]} for one in crates)]
-    waits = lambda crate: (*after, *(f'proof of {name}' for name in listed[crate]))
+    waits = lambda crate: (*after, *(f'proof of {name}' for name in crates_listed()[crate]))
     command = [PYTHON, 'checks/gate.py', 'prove', *anew]
-    return [Part(f'proof of {crate}', [*command, crate], waits(crate), copy, True) for crate in wanted]
+    return [Part(f'proof of {crate}', [*command, crate], waits(crate), copy, True) for crate in with_those_below(*crates)]
 
 
 def edits(crates, copy, *words, what='edits'):
@@ -165,12 +165,11 @@ def leave(copy):
 class Run:
     def __init__(self, parts):
         self.parts, self.running, self.start, self.said = parts, {}, time.time(), time.time()
-        self.status = {part.name: part for part in parts}
+        self.named = {part.name: part for part in parts}
         # How long the longest chain of parts is that wait for each one. (They stand after it.)
-        self.chain = dict.fromkeys(self.status, 0)
+        self.chain = dict.fromkeys(self.named, 0)
         for part in reversed(parts):
-            for name in part.after:
-                self.chain[name] = max(self.chain[name], self.chain[part.name] + part.weight)
+            self.chain.update({name: max(self.chain[name], self.chain[part.name] + part.weight) for name in part.after})
 
     def say(self, line):
         self.said = time.time()
@@ -180,7 +179,7 @@ class Run:
     def begin(self, part):
         part.begun = time.time()
         level = 15 if not part.is_first else 0 if self.chain[part.name] + part.weight > 3 else 8
-        with part.log('w') as log:
+        with open(part.log, 'w', encoding='utf-8') as log:
             ran = subprocess.Popen(['nice', '-n', str(level), *part.command], cwd=part.where, stdin=subprocess.DEVNULL, stdout=log, stderr=log)
         self.running[ran.pid] = (part, ran)
 
@@ -188,10 +187,10 @@ class Run:
         part, ran = self.running.pop(pid)
         ran.returncode = status
         part.ended, part.seconds, part.status = time.time(), used.ru_utime + used.ru_stime, status
-        lines = part.printed('')
+        lines = part.printed()
         self.say('\n'.join([f'{part.name} FAILED. It printed:', *lines]) if status else f'{part.name}: {next(filter(None, reversed(lines)), "")}')
         for other in self.parts:
-            if other.status is None and any(self.status[name].status for name in other.after):
+            if other.status is None and any(self.named[name].status for name in other.after):
                 other.status = 1
                 self.say(f'{other.name} IS LEFT OUT')
 
@@ -204,7 +203,7 @@ class Run:
         while left := [part for part in self.parts if part.status is None]:
             now = [part for part, _ in self.running.values()]
             waiting = [part for part in left if part not in now]
-            ready = [part for part in waiting if all(self.status[name].status == 0 for name in part.after)]
+            ready = [part for part in waiting if all(self.named[name].status == 0 for name in part.after)]
             for part in sorted(ready, key=lambda part: (not part.is_first, -self.chain[part.name])):
                 if busy(other for other in now if other.is_first) < places if part.is_first else busy(now) < places + spare:
                     self.begin(part)
@@ -222,22 +221,15 @@ class Run:
         return 1 if any(part.status for part in self.parts) else 0
 
     def table(self):
+        ended = sorted((part for part in self.parts if part.ended), key=lambda part: part.begun)
+        row = lambda name, begun, end, seconds: f'{name:<32} {(begun - self.start) / 60:6.1f} {(end - self.start) / 60:6.1f} {seconds / 60:18.1f}'
         print(f'{"part":<32} {"from":>6} {"to":>6} {"processor minutes":>18}')
-        for part in sorted((part for part in self.parts if part.ended), key=lambda part: part.begun):
-            kept = KEPT.search('\n'.join(part.printed('')[-3:]))
-            times = f'{(part.begun - self.start) / 60:6.1f} {(part.ended - self.start) / 60:6.1f} {part.seconds / 60:18.1f}'
-            print(f'{part.name:<32} {times}{f"  {kept[0]}" if kept else ""}')
-        print(f'{"all":<32} {0:6.1f} {(time.time() - self.start) / 60:6.1f} {sum(part.seconds for part in self.parts) / 60:18.1f}')
+        for part in ended:
+            kept = KEPT.findall('\n'.join(part.printed()[-3:]))
+            print(row(part.name, part.begun, part.ended, part.seconds), *kept[:1], sep='  ')
+        print(row('all', self.start, time.time(), sum(part.seconds for part in self.parts)))
         # (which programs the machine lacks, and what is not tested for each)
-        print(''.join(dict.fromkeys(f'{line}\n' for part in self.parts if part.ended for line in part.printed('left out: '))), end='')
-
-
-def edits_asked_for(options, room):
-    """The parts of `make edits`."""
-    folder = options.folder and os.path.abspath(options.folder)
-    crates = [crate for crate in crates_with(('edits', 'must-fail', 'controls'), options.edit, folder) if crate in (options.crates or [crate])]
-    copy = copied(f'{room}/proved')
-    return [*proofs(crates, copy, options.anew), *edits(crates, copy, *options.anew, '--edit', options.edit, '--from', folder)]
+        print(''.join(dict.fromkeys(f'{line}\n' for part in ended for line in part.printed('left out: '))), end='')
 
 
 def main():
@@ -256,7 +248,12 @@ def main():
     if options.over is not None and not os.path.isdir(f'{options.over}/crates'):
         fail(f'{options.over} is no checkout of this repository, so its proofs are not taken over')
     with tempfile.TemporaryDirectory(prefix='gate-') as room:
-        parts = edits_asked_for(options, room) if options.goal == 'edits' else test(room, options.goal == 'gate', options.over, options.anew)
+        if options.goal == 'edits':
+            folder, copy = options.folder and os.path.abspath(options.folder), copied(f'{room}/proved')
+            crates = [crate for crate in crates_with(KINDS, options.edit, folder) if crate in (options.crates or [crate])]
+            parts = proofs(crates, copy, options.anew) + edits(crates, copy, *options.anew, '--edit', options.edit, '--from', folder)
+        else:
+            parts = test(room, options.goal == 'gate', options.over, options.anew)
         if not parts:
             fail('no edit was found')
         # (`rt ci` counts on the memory that is free)

@@ -13,7 +13,7 @@ import shutil
 import subprocess
 import tempfile
 
-from crates import crates_listed, sum_of, text_of
+from crates import copy_files, crates_listed, sources_of, sum_of, text_of, with_those_below
 
 HERE = os.path.dirname(os.path.abspath(__file__))
 # What reaches a verdict, or a proof.
@@ -40,9 +40,7 @@ def take(crate, source, to, parts=('incremental', 'rlib')):
 def alone(crate, room):
     """Copies the crates here for one crate, with what its checks have cached and the libraries below it as they were proved, and returns its
     folder there. The toolchain lets one check at a time into a crate's folder and those below it, so each proof has folders of its own."""
-    shutil.copytree('crates', f'{room}/crates', ignore=shutil.ignore_patterns('target', 'out'), symlinks=True)
-    for name in ('HANDLES', 'crates.txt'):
-        shutil.copy(name, room)
+    copy_files([*sources_of(crates_listed()), *glob.glob(f'crates/{crate}/std*')], room)
     for name in crates_listed()[crate]:
         take(name, '.', room, ['rlib'])
     take(crate, '.', room)
@@ -53,67 +51,56 @@ def sum_of_texts(*texts):
     return hashlib.sha256(json.dumps(texts).encode()).hexdigest()
 
 
-def folder_of(crate, scripts=HERE):
-    """The folder of what is kept of a crate as it is now, or None where none can be written."""
-    cache = os.environ.get('XDG_CACHE_HOME', '')
-    at = os.path.join(cache if os.path.isabs(cache) else os.path.expanduser('~/.cache'), 'goblin-checks', crate)
-    version = subprocess.run(['rt', 'version'], stdout=subprocess.PIPE, text=True, check=True).stdout
-    sources = sum_of({crate, *crates_listed()[crate]})
-    folder = f'{at}/{sum_of_texts(version, sources, *(text_of(f"{scripts}/{name}") for name in SCRIPTS))}'
-    try:
-        os.makedirs(f'{folder}/verdicts', exist_ok=True)
-        os.utime(folder)
-        # (an unwritable disk)
-        with tempfile.TemporaryFile(dir=folder):
-            pass
-        used = sorted(glob.glob(f'{glob.escape(at)}/*'), key=os.path.getmtime)
-        for old in used[:-MOST] + [f'{one}/crates' for one in used[:-MOST_PROOFS]]:
-            shutil.rmtree(old, ignore_errors=True)
-        return folder
-    except OSError:
-        return None
+class Kept:
+    """What is kept of a crate as it is now. Where no folder of it can be written, there is none, and nothing is kept."""
 
-
-class Verdicts:
-    """What was said of edits of a crate before, and where that is kept, if it can be."""
-
-    def __init__(self, crate, edits, scripts=HERE):
-        self.folder = folder_of(crate, scripts)
-        self.paths = {edit.name: f'{self.folder}/verdicts/{sum_of_texts(repr(edit))}' for edit in edits}
-
-    def of(self, edit):
-        """In which way an edit was judged as it should be, and what was said of it; or None if that is not known."""
-        path = self.paths[edit.name]
+    def __init__(self, crate, scripts=HERE):
+        cache = os.environ.get('XDG_CACHE_HOME', '')
+        at = os.path.join(cache if os.path.isabs(cache) else os.path.expanduser('~/.cache'), 'goblin-checks', crate)
+        version = subprocess.run(['rt', 'version'], stdout=subprocess.PIPE, text=True, check=True).stdout
+        scripts = [text_of(f'{scripts}/{name}') for name in SCRIPTS]
+        self.crate, self.folder = crate, f'{at}/{sum_of_texts(version, sum_of(with_those_below(crate)), *scripts)}'
         try:
-            way, line, own = json.loads(text_of(path))
+            os.makedirs(f'{self.folder}/verdicts', exist_ok=True)
+            os.utime(self.folder)
+            # (an unwritable disk)
+            tempfile.TemporaryFile(dir=self.folder).close()
+            used = sorted(glob.glob(f'{glob.escape(at)}/*'), key=os.path.getmtime)
+            for old in used[:-MOST] + [f'{one}/crates' for one in used[:-MOST_PROOFS]]:
+                shutil.rmtree(old, ignore_errors=True)
+        except OSError:
+            self.folder = None
+
+    def path(self, edit):
+        return f'{self.folder}/verdicts/{sum_of_texts(edit.read)}'
+
+    def verdict(self, edit):
+        """In which way an edit was judged as it should be, and what was said of it; or None if that is not known."""
+        try:
+            way, line, own = json.loads(text_of(self.path(edit)))
         except (OSError, ValueError, TypeError):
             return None
-        return (way, line) if own == sum_of_texts(path, way, line) else None
+        return (way, line) if own == sum_of_texts(self.path(edit), way, line) else None
 
-    def keep(self, edit, way, line):
-        path = self.paths[edit.name]
+    def keep_verdict(self, edit, way, line):
         # (nothing is kept if the disk is full)
         with contextlib.suppress(OSError):
-            with tempfile.NamedTemporaryFile('w', dir=os.path.dirname(path), prefix='made-', delete=False) as file:
-                json.dump([way, line, sum_of_texts(path, way, line)], file)
-            os.replace(file.name, path)
+            with tempfile.NamedTemporaryFile('w', dir=f'{self.folder}/verdicts', prefix='made-', delete=False) as file:
+                json.dump([way, line, sum_of_texts(self.path(edit), way, line)], file)
+            os.replace(file.name, self.path(edit))
 
+    def take_proof(self):
+        """Takes what an earlier proof has cached, and returns whether it is kept. (The toolchain reads it as that of any check.)"""
+        # (another run may remove it now)
+        with contextlib.suppress(OSError):
+            if os.path.isdir(f'{self.folder}/crates'):
+                take(self.crate, self.folder, '.')
+                return True
+        return False
 
-def take_proof(crate):
-    """Takes what an earlier proof of a crate has cached, and returns whether it is kept. (The toolchain reads it as that of any check.)"""
-    folder = folder_of(crate)
-    # (another run may remove it now)
-    with contextlib.suppress(OSError):
-        if folder and os.path.isdir(f'{folder}/crates'):
-            take(crate, folder, '.')
-            return True
-    return False
-
-
-def keep_proof(crate):
-    """Keeps what the proof of a crate has cached, if another run has not."""
-    folder = folder_of(crate)
-    with contextlib.suppress(OSError), tempfile.TemporaryDirectory(prefix='made-', dir=folder) as made:
-        if folder:
-            take(crate, '.', made)
-            os.rename(f'{made}/crates', f'{folder}/crates')
+    def keep_proof(self):
+        """Keeps what the proof has cached, if another run has not."""
+        with contextlib.suppress(OSError), tempfile.TemporaryDirectory(prefix='made-', dir=self.folder) as made:
+            if self.folder:
+                take(self.crate, '.', made)
+                os.rename(f'{made}/crates', f'{self.folder}/crates')

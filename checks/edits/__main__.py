@@ -20,7 +20,7 @@ sys.dont_write_bytecode = True
 sys.path[:0] = [HERE, os.path.dirname(HERE)]
 from crates import crates_listed, text_of
 from edit import CONTROLS, EDITS, MUST_FAIL, read_edits
-from kept import Verdicts, alone
+from kept import Kept, alone
 from trial import Trial
 from verdict import Said
 
@@ -47,11 +47,11 @@ def try_crate(crate, options):
     """Tries the edits of a crate that no earlier run did, says what came of each, and returns how many are at fault."""
     start, (edits, wrong) = time.time(), read_edits(crate, options)
     if not wrong:
-        verdicts = Verdicts(crate, edits)
-        if not verdicts.folder:
+        kept = Kept(crate)
+        if not kept.folder:
             print('edits: no cache folder can be written, so all are tried')
-        known = {edit: verdict for edit in edits if not options.anew and (verdict := verdicts.of(edit))}
-        trial = Trial(crate, [edit for edit in edits if edit not in known], Said(text_of(f'crates/{crate}/out/said'), crate), verdicts)
+        known = {edit: verdict for edit in edits if not options.anew and (verdict := kept.verdict(edit))}
+        trial = Trial(crate, [edit for edit in edits if edit not in known], Said(text_of(f'crates/{crate}/out/said'), crate), kept)
         for edit, verdict in known.items():
             trial.report(edit, *verdict)
         if trial.edits:

@@ -34,13 +34,14 @@ Change = namedtuple('Change', 'file start old new place function source', defaul
 @dataclass(frozen=True)
 class Edit:
     """A wrong body, or another wrong text, or a right one: its folder and name, its changes, what alone is checked with it, whether it is
-    wrong and has a control, and the functions by which it is judged."""
+    wrong and has a control, the functions by which it is judged, and all of this as it was read."""
     kind: str
     name: str
     changes: tuple
     only: tuple = ()
     has_control: bool = False
     functions: frozenset = frozenset()
+    read: str = ''
 
     def stands_in(self, *places):
         return all(change.place in places for change in self.changes)
@@ -91,7 +92,8 @@ def read_edit(path, kind, crate):
     if kind == CONTROLS and any(map(is_idle, changes)):
         raise Misfit('a condition of it, or a part of one, is constant')
     has_control = kind != CONTROLS and os.path.isfile(f'crates/{crate}/{CONTROLS}/{path.name}')
-    return Edit(kind, f'{kind}/{path.stem}', tuple(changes), tuple(only), has_control)
+    edit = Edit(kind, f'{kind}/{path.stem}', tuple(changes), tuple(only), has_control)
+    return replace(edit, read=repr(edit))
 
 
 def start_of(old, path):
@@ -130,13 +132,11 @@ def placed(crate, change):
     if not re.fullmatch(r'src/.*\.rt', change.file):
         return change
     code, module, end = code_of(f'crates/{crate}/{change.file}'), module_of(crate, change.file), change.start + len(change.old)
-    inside, place = None, ELSEWHERE
-    for found in FUNCTION.finditer(code):
+    for found in reversed([*FUNCTION.finditer(code)]):
         start, stop = body_of(code, found.end())
         if found.start() < end and change.start < stop:
-            inside, place = found, BODY if start < change.start and end <= stop else HEAD
-    if inside:
-        return change._replace(place=place, function=(module, block_at(code, inside.start()), inside[1]))
+            place = BODY if start < change.start and end <= stop else HEAD
+            return change._replace(place=place, function=(module, block_at(code, found.start()), found[1]))
     for found in PASSED_ON.finditer(code):
         if found.start(2) <= change.start and end <= found.end():
             return change._replace(place=LIST, function=(module, '', LAW), source=found[1][:-len('::')].replace('crate', crate, 1))
@@ -155,11 +155,8 @@ def body_of(code, at):
 
 def block_at(code, at):
     """The head of the innermost impl or trait round a place, or nothing."""
-    head = ''
-    for found in BLOCK.finditer(code):
-        if found.end() <= at < closing(code, found.end() - 1):
-            head = f'{found[1]}{found[2]}'.strip()
-    return head
+    heads = [f'{found[1]}{found[2]}'.strip() for found in BLOCK.finditer(code) if found.end() <= at < closing(code, found.end() - 1)]
+    return heads[-1] if heads else ''
 
 
 def module_of(crate, file):

@@ -15,8 +15,9 @@ from types import SimpleNamespace
 HERE = os.path.dirname(os.path.abspath(__file__))
 sys.dont_write_bytecode = True
 sys.path[:0] = [HERE, os.path.dirname(HERE)]
+from crates import text_of
 from edit import read_edits
-from kept import SCRIPTS, Verdicts
+from kept import SCRIPTS, Kept
 from verdict import open_of
 
 CODE = {
@@ -153,24 +154,24 @@ DAMAGES = [lambda path: write(path, '["with values", "ref'), lambda path: write(
 
 def is_known():
     """Whether a verdict of an edit is known. If not, it is kept from now on."""
-    edits, _ = read_edits('planted', SimpleNamespace(folder='', kinds='edits', edit='adds_nothing'))
-    verdicts = Verdicts('planted', edits, os.path.abspath('checks'))
-    return bool(verdicts.of(edits[0]) or verdicts.keep(edits[0], 'with values', 'refused'))
+    (edit,), _ = read_edits('planted', SimpleNamespace(folder='', kinds='edits', edit='adds_nothing'))
+    kept = Kept('planted', os.path.abspath('checks'))
+    return bool(kept.verdict(edit) or kept.keep_verdict(edit, 'with values', 'refused'))
 
 
 def taken_over_wrongly():
     """What is taken over though something that it rests on is changed, or though it is damaged; or not taken over though nothing is. In the
     folder of the crate `planted`."""
-    for path in ('crates/low/src/lib.rt', 'crates/planted/specs/Lib.antt', 'crates.txt', 'bin/rt'):
-        write(path, {'crates.txt': 'planted: low\nlow:\n', 'bin/rt': '#!/bin/sh\necho kit logic 1\n'}.get(path, 'one'))
+    for path, text in {'crates/low/src/lib.rt': 'one', 'crates/planted/specs/Lib.antt': 'one', 'crates.txt': 'planted: low\nlow:\n',
+                       'bin/rt': '#!/bin/sh\necho kit logic 1\n'}.items():
+        write(path, text)
     os.chmod('bin/rt', 0o755)
     shutil.copytree(os.path.dirname(HERE), 'checks', ignore=shutil.ignore_patterns('files', 'faces', '__pycache__'))
     os.environ.update(PATH=f'{os.path.abspath("bin")}:{os.environ["PATH"]}', XDG_CACHE_HOME=os.path.abspath('other cache'))
     faults = ['a verdict that was not kept'] * is_known()
     for path, (old, new) in RESTS_ON.items():
         faults += [f'not before a change of {path}'] * (not is_known())
-        with open(path, encoding='utf-8') as file:
-            text = file.read()
+        text = text_of(path)
         write(path, text.replace(old, new, 1))
         faults += [f'a verdict after a change of {path}'] * is_known()
         write(path, text)
@@ -191,10 +192,11 @@ def runs_wrongly(room, tried):
     faults = []
     for cache, path, lines in (('cache', '', [line, '0 tried, 1 kept']), ('empty', f'{room}/killed:', ['NOT REFUSED: the edited code is no valid']),
                                ('empty', '', [line, '1 tried, 0 kept']), ('empty', '', [line, '0 tried, 1 kept'])):
-        runs = [subprocess.Popen([sys.executable, HERE, 'planted', '--edit', 'adds_nothing'], cwd=room, stdout=subprocess.PIPE, text=True,
-                                 env={**os.environ, 'PATH': path + os.environ['PATH'], 'XDG_CACHE_HOME': f'{room}/{cache}'}) for _ in range(2)]
-        printed = [ran.communicate()[0] for ran in runs]
-        faults += [f'{text}\nself_test: this lacks {lines}' for text in printed if not all(part in text for part in lines)]
+        variables = {**os.environ, 'PATH': path + os.environ['PATH'], 'XDG_CACHE_HOME': f'{room}/{cache}'}
+        command = [sys.executable, HERE, 'planted', '--edit', 'adds_nothing']
+        runs = [subprocess.Popen(command, cwd=room, stdout=subprocess.PIPE, text=True, env=variables) for _ in range(2)]
+        faults += [f'{text}\nself_test: this lacks {lines}' for text, _ in [ran.communicate() for ran in runs]
+                   if not all(part in text for part in lines)]
     return faults
 
 

@@ -25,8 +25,8 @@ KILLED, ACCEPTED = 128, 'accepted'
 class Trial:
     """Edits of a crate, with what its proof reported, and where verdicts are kept."""
 
-    def __init__(self, crate, edits, before, verdicts):
-        self.crate, self.edits, self.before, self.verdicts = crate, edits, before, verdicts
+    def __init__(self, crate, edits, before, kept):
+        self.crate, self.edits, self.before, self.kept = crate, edits, before, kept
         self.ways, self.wrong, self.checks = Counter(), [], 0
         # what functions were seen to wait for, and the edits that a group did not judge, most of which only waited
         self.waits, self.left = defaultdict(set), set()
@@ -47,7 +47,10 @@ class Trial:
         for place in (BODY, LIST):
             pending = [edit for edit in edits if edit.stands_in(place)]
             while pending:
-                pending = self.try_group(pending)
+                group = self.next_group(pending)
+                # (the first one alone, if none can be judged beside others)
+                judged = self.judged_of(group) or self.judged_of(group[:1])
+                pending = [edit for edit in pending if edit not in judged]
         for edit in edits:
             if not edit.stands_in(BODY) and not edit.stands_in(LIST):
                 self.try_alone(edit)
@@ -95,12 +98,6 @@ class Trial:
             found |= more
             left += more
         return found
-
-    def try_group(self, pending):
-        """Judges as many edits as can be judged together, or the first one alone, and returns those that are still to be judged."""
-        group = self.next_group(pending)
-        judged = self.judged_of(group) or self.judged_of(group[:1])
-        return [edit for edit in pending if edit not in judged]
 
     def judged_of(self, group):
         """Judges a group by one check, or a single edit alone, and returns those that are judged. Where a text is no valid Rattle, each half
@@ -175,7 +172,7 @@ class Trial:
         functions = ' and '.join(refused or sorted(edit.functions))
         line = f'{f"refused {by}" if by else ACCEPTED}: {functions}{f" ({goal})" if goal else ""}'
         self.report(edit, by or ACCEPTED, line)
-        self.verdicts.keep(edit, by or ACCEPTED, line)
+        self.kept.keep_verdict(edit, by or ACCEPTED, line)
 
     def report(self, edit, way, line):
         self.ways[way] += 1
