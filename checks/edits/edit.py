@@ -2,7 +2,8 @@
 
 An edit is a file. It has a line 'file: src/lib.rt', or with a file of specs/ or proofs/, and after it pairs of lines 'old: TEXT'
 and 'new: TEXT'. Each old text occurs exactly once in that file as it is committed. A line 'only: FUNCTION' names a function by its path, by
-which an edit of more than a body is judged: it, what it calls and their lemmas are checked, and something of these must be refused.
+which an edit of more than a body is judged, as one of a list of constants that a module passes on by its law `constants`: the function, what
+it calls and their lemmas are checked, and something of these must be refused.
 """
 import os
 import re
@@ -18,17 +19,15 @@ class Misfit(Exception):
     """Why an edit can't be applied."""
 
 
-# Where a change stands: in a function's body, in its head, in a list of constants that a module passes on, or elsewhere.
-BODY, HEAD, LIST, ELSEWHERE = 'body', 'head', 'list', 'elsewhere'
-# The function of a module that says what number each of its constants is.
-LAW = 'constants'
+# Where a change stands: in a function's body, in its head, or elsewhere.
+BODY, HEAD, ELSEWHERE = 'body', 'head', 'elsewhere'
 # The folders of a crate that hold edits: wrong bodies; those that break a promise outright; and for each of these, and some others, a right
 # body of its name.
 EDITS, MUST_FAIL, CONTROLS = 'edits', 'must-fail', 'controls'
 
-# One text of a file that is replaced: where it starts, its place, the function that is to be refused for it, or that it writes elsewhere, if
-# there is one, and the module that a list is taken from.
-Change = namedtuple('Change', 'file start old new place function source', defaults=(ELSEWHERE, None, ''))
+# One text of a file that is replaced: where it starts, its place, and the function that is to be refused for it, or that it writes elsewhere, if
+# there is one.
+Change = namedtuple('Change', 'file start old new place function', defaults=(ELSEWHERE, None))
 
 
 @dataclass(frozen=True)
@@ -47,15 +46,11 @@ class Edit:
         return all(change.place in places for change in self.changes)
 
     def among(self, known):
-        """The edit with its functions among those that the prover names, or None if it doesn't name one of them. A list is judged by the law of
-        its module, unless it has none, or the list is taken from a module with a law of its own, whose lists may be edited too."""
-        has_law = lambda change: law_among(change.function[0], known) and not law_among(change.source, known)
-        changes = tuple(change._replace(place=ELSEWHERE, function=None) if change.place == LIST and not has_law(change) else change
-                        for change in self.changes)
-        paths = {change: path_among(change.function, known) for change in changes if change.function}
+        """The edit with its functions among those that the prover names, or None if it doesn't name one of them."""
+        paths = {change: path_among(change.function, known) for change in self.changes if change.function}
         # (what it writes elsewhere may be new)
         is_named = all(path or change.place == ELSEWHERE for change, path in paths.items()) and all(path in known for path in self.only)
-        return replace(self, changes=changes, functions=frozenset(paths.values()) - {None}) if is_named else None
+        return replace(self, functions=frozenset(paths.values()) - {None}) if is_named else None
 
 
 def read_edits(crate, options):
@@ -116,7 +111,6 @@ def apply(edits, source):
 
 FUNCTION = re.compile(r'\bfn\s+(\w+)')
 BLOCK = re.compile(r'^[ \t]*(?:pub\s+)?(impl|trait|mod)\b([^{;]*)\{', re.M)
-PASSED_ON = re.compile(r'^pub use ((?:\w+::)+)(\{[^}]*\});', re.M)
 # A condition, and what a part of one names unless it is constant.
 CONDITION = re.compile(r'\b(?:if|while) (?!let\b)([^{]*)\{')
 NAMED = re.compile(r'\b(?!(?:true|false|as|[ui]\d+|[ui]size)\b)[a-z]\w*')
@@ -128,7 +122,7 @@ def is_idle(change):
 
 
 def placed(crate, change):
-    """A change with its place: the innermost function round it, or the list that a module passes on, or the function that it writes."""
+    """A change with its place: the innermost function round it, or the function that it writes."""
     if not re.fullmatch(r'src/.*\.rt', change.file):
         return change
     code, module, end = code_of(f'crates/{crate}/{change.file}'), module_of(crate, change.file), change.start + len(change.old)
@@ -137,9 +131,6 @@ def placed(crate, change):
         if found.start() < end and change.start < stop:
             place = BODY if start < change.start and end <= stop else HEAD
             return change._replace(place=place, function=(module, block_at(code, found.start()), found[1]))
-    for found in PASSED_ON.finditer(code):
-        if found.start(2) <= change.start and end <= found.end():
-            return change._replace(place=LIST, function=(module, '', LAW), source=found[1][:-len('::')].replace('crate', crate, 1))
     written = FUNCTION.search(change.new)
     return change._replace(function=(module, block_at(code, change.start), written[1])) if written else change
 
@@ -168,19 +159,12 @@ def module_of(crate, file):
 def path_among(function, known):
     """Returns the path by which the prover names a function, of those that it knows, or None if that is uncertain."""
     module, block, name = function
-    if name == LAW:
-        return law_among(module, known)
     ends = [f'::{part}::{name}' for part in blocks_named(block)] if block else [f'{module}::{name}']
     same = [path for path in known if any(path.endswith(end) for end in ends)]
     here = [path for path in same if path.startswith(f'{module}::')]
     # a block whose name holds more than its head shows, as of a tuple, is known where its module has one such function
     more = [path for path in known if re.fullmatch(rf'{module}::\w+::{name}', path)] if block and not same else []
     return next((found[0] for found in (here, same, more) if len(found) == 1), None)
-
-
-def law_among(module, known):
-    """Returns the path by which the prover names the law of a module, in it or below it, or None if the module has none."""
-    return next((path for path in known if re.fullmatch(rf'{module}::(\w+::)?{LAW}', path)), None)
 
 
 def blocks_named(head):

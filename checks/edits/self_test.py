@@ -73,12 +73,6 @@ pub use crate::numbers::{ONE, TWO};
 pub fn constants()
     ensures { ONE ≡ 1 }
 {}
-
-pub fn two() -> u8
-    ensures { result ≡ 2 }
-{
-    TWO
-}
 ''',
     'proofs/third/Answers.antt': '''use Rattle.std.proofs.Common.{arith}
 use Rattle.planted.proofs.third.Goals as goal
@@ -113,12 +107,8 @@ PLANTED = {
         ('edits/two_is_three', 'TWO: u8 = 2;', 'TWO: u8 = 3;\nonly: planted::right::constants',
          'NOT REFUSED: nothing is refused of planted::right::constants'),
     ],
-    'src/left.rt': [('edits/left_exchanges_two', '{ONE, TWO}', '{TWO as ONE, ONE as TWO}', 'refused with values: planted::left::constants')],
-    'src/right.rt': [
-        ('edits/right_exchanges_two', '{ONE, TWO}', '{TWO as ONE, ONE as TWO}', 'refused with values: planted::right::constants'),
-        ('edits/right_passes_on_what_its_law_leaves_out', '{ONE, TWO}', '{ONE, ONE as TWO}',
-         'NOT REFUSED: its own function is still proved with it, though planted::right::two'),
-    ],
+    'src/left.rt': [('edits/left_exchanges_two', '{ONE, TWO}', '{TWO as ONE, ONE as TWO}\nonly: planted::left::constants',
+                     'refused with values: planted::left::constants')],
 }
 
 # An edit of must-fail/ that doesn't fit the code and has no control, a control that never runs, and what is to be said of them.
@@ -186,7 +176,8 @@ def taken_over_wrongly():
 
 def runs_wrongly(room, tried):
     """What runs over kept verdicts print wrong: one after another, one whose check is killed, and two side by side."""
-    write(f'{room}/killed/rt', f'#!/bin/sh\n[ "$1" = check ] && kill -9 $$\nexec {shutil.which("rt")} "$@"\n')
+    is_edited = f'[ "$1" = check ] && ! cmp -s src/lib.rt {room}/crates/planted/src/lib.rt'
+    write(f'{room}/killed/rt', f'#!/bin/sh\n{is_edited} && kill -9 $$\nexec {shutil.which("rt")} "$@"\n')
     os.chmod(f'{room}/killed/rt', 0o755)
     line, = (line for line in tried.splitlines() if line.startswith('planted/edits/adds_nothing: '))
     faults = []

@@ -3,19 +3,19 @@
 A function is judged by its own clauses alone: those of other functions stay, whatever their bodies are. So edits that change
 bodies of different functions are applied at once, and one check judges them all. An edit is refused where a goal of its own
 function's is. One that only waits for another function, as does a right body that calls a wrong one, or that fails by names
-alone, is judged in a later group, without what it waits for, and in the end alone. So are edits of lists of constants that
-different modules pass on, each by its module's law, which says what number each name is there. An edit that changes more, as a
-constant or a definition, stands alone, and whatever cites that may refuse it, or what it names as its judge, unless it has a
-control: then its own function must. A control is a right body, which must be accepted.
+alone, is judged in a later group, and in the end alone. An edit that changes more, as a constant or a definition, stands alone,
+because whatever cites that may refuse it, and beside another one nothing would show which of the two did. What it names as its
+judge must refuse it, or unless it has a control something of the crate; with a control its own function must. A control is a
+right body, which must be accepted.
 Each check goes by what the crate's own proof left, so that none proves anew what an edit before it had changed.
 """
 import os
 import shutil
 import subprocess
-from collections import Counter, defaultdict
+from collections import Counter
 
 from crates import text_of
-from edit import BODY, CONTROLS, HEAD, LIST, apply
+from edit import BODY, CONTROLS, HEAD, apply
 from verdict import Said
 
 # From this status on a check was killed; what comes of a right body.
@@ -28,8 +28,6 @@ class Trial:
     def __init__(self, crate, edits, before, kept):
         self.crate, self.edits, self.before, self.kept = crate, edits, before, kept
         self.ways, self.wrong, self.checks = Counter(), [], 0
-        # what functions were seen to wait for, and the edits that a group did not judge, most of which only waited
-        self.waits, self.left = defaultdict(set), set()
 
     def run(self, folder):
         """Judges every edit in a copy of the crate, which has what checks have cached of it. Where the crate itself is not proved, none counts."""
@@ -44,16 +42,14 @@ class Trial:
         for edit in [edit for edit in known if not known[edit]]:
             self.report_wrong(edit, 'the prover names no function of this name')
         edits = [edit for edit in known.values() if edit]
-        for place in (BODY, LIST):
-            pending = [edit for edit in edits if edit.stands_in(place)]
-            while pending:
-                group = self.next_group(pending)
-                # (the first one alone, if none can be judged beside others)
-                judged = self.judged_of(group) or self.judged_of(group[:1])
-                pending = [edit for edit in pending if edit not in judged]
-        for edit in edits:
-            if not edit.stands_in(BODY) and not edit.stands_in(LIST):
-                self.try_alone(edit)
+        pending = [edit for edit in edits if edit.stands_in(BODY)]
+        while pending:
+            group = self.next_group(pending)
+            # (the first one alone, if none can be judged beside others)
+            judged = self.judged_of(group) or self.judged_of(group[:1])
+            pending = [edit for edit in pending if edit not in judged]
+        for edit in [edit for edit in edits if not edit.stands_in(BODY)]:
+            self.try_alone(edit)
 
     def check(self, edits, only=()):
         """What the prover says of the crate with these edits, or of some functions. A check that is killed, as where memory is short, is made
@@ -79,25 +75,13 @@ class Trial:
                 file.write(text)
 
     def next_group(self, pending):
-        """As many edits as change different functions, and none that an earlier group left beside what its function was seen to wait for."""
-        group, taken, apart = [], set(), set()
+        """As many edits as change different functions."""
+        group, taken = [], set()
         for edit in pending:
-            own = edit.functions
-            awaited = self.awaited(own) if edit in self.left else set()
-            if not (own | awaited) & taken and not own & apart:
+            if not edit.functions & taken:
                 group.append(edit)
-                taken |= own
-                apart |= awaited
+                taken |= edit.functions
         return group
-
-    def awaited(self, paths):
-        """All that these functions were seen to wait for."""
-        found, left = set(), list(paths)
-        while left:
-            more = self.waits[left.pop()] - found
-            found |= more
-            left += more
-        return found
 
     def judged_of(self, group):
         """Judges a group by one check, or a single edit alone, and returns those that are judged. Where a text is no valid Rattle, each half
@@ -109,11 +93,7 @@ class Trial:
         if not said.is_whole:
             half = len(group) // 2
             return self.judged_of(group[:half]) + self.judged_of(group[half:])
-        for path, function in said.functions.items():
-            self.waits[path] |= function.waits
-        judged = [edit for edit in group if self.judge(edit, said)]
-        self.left.update(edit for edit in group if edit not in judged)
-        return judged
+        return [edit for edit in group if self.judge(edit, said)]
 
     def verdict(self, edit, said):
         """Whether a check judges an edit as it should be, how it refuses each of the edit's functions that it refuses, and whether it proves
@@ -138,7 +118,7 @@ class Trial:
     def try_alone(self, edit):
         """Judges an edit by a check of its own."""
         # (the whole crate only where its functions do not judge it)
-        by_its_own = edit.stands_in(BODY, LIST) or edit.kind == CONTROLS or edit.has_control
+        by_its_own = edit.stands_in(BODY) or edit.kind == CONTROLS or edit.has_control
         for only in [edit.only] if edit.only else [edit.functions, ()] if by_its_own else [()]:
             said = self.check([edit], only)
             is_right, refused, is_proved = self.verdict(edit, said)
@@ -153,7 +133,7 @@ class Trial:
             self.report_wrong(edit, f'its function is not proved with it\n{said.text[-2000:]}')
         elif said.is_proved:
             self.report_wrong(edit, 'the crate is still proved with it')
-        elif all_refused and not edit.has_control and not edit.stands_in(BODY, HEAD, LIST):
+        elif all_refused and not edit.has_control and not edit.stands_in(BODY, HEAD):
             # it changes a definition, a constant or a type: whatever cites it may refuse it
             self.report_right(edit, dict(list(all_refused.items())[:3]), said)
         elif edit.only and not all_refused:

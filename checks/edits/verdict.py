@@ -46,7 +46,7 @@ class Said:
                 by = VALUES_WORD if open == VALUES_WORD else SEARCH_WORD if SEARCH in verdict else by
                 # (a closure with a condition is `proved where its callers give what it asks`)
                 is_proved, by = verdict.startswith(PROVED), by if verdict.startswith(NOT_PROVED) else ''
-                self.functions[path] = Function(is_proved, by, set(re.findall(r'`([\w:]+)`', waits)), open, ''.join(goals[0]) if goals else '')
+                self.functions[path] = Function(is_proved, by, waits, open, ''.join(goals[0]) if goals else '')
             elif verdict != PROVED and not waits:
                 self.others.append(f'{kind} {path}')
         self.others += answers
