@@ -548,7 +548,8 @@ class Written(unittest.TestCase):
             number = (value or 0) % (1 << 64)
             self.assertEqual((error.kind, error.numbers, error.offset), (Kind.INTEGER_FIT, (number,), place))
             self.assertEqual(error.item, Item.ADDEND if field == 'r_addend' else None)
-            self.assertEqual(str(error), 'Malformed entity: Integer do not fit: out of range integral type conversion attempted')
+            self.assertEqual(str(error), 'Malformed entity: Integer do not fit: out of range integral type conversion attempted'
+                             + (f': {number} at offset {place}' if number else ''))
         self.assertEqual(changed, file.bytes)
 
     def test_header_and_numbers(self):
