@@ -412,6 +412,24 @@ check('What is refused of a writer says why, also past the end of a list, and ch
     return `${written} records that are written`;
 });
 
+check('A section links to the one at sh_link, unless that is 0, past the end or without bytes', () => {
+    let linked = 0;
+    for (const content of files) {
+        const elf = Elf.parse(content), sections = [...elf.section_headers()];
+        for (const section of sections) {
+            const found = elf.linked_section(section), wanted = section.sh_link ? sections[section.sh_link] : undefined;
+            assert.deepEqual(found, wanted?.sh_type === goblin.SHT_NOBITS ? undefined : wanted);
+            if (found) linked++;
+        }
+        const without_bytes = sections.findIndex(({ sh_type }) => sh_type === goblin.SHT_NOBITS);
+        for (const sh_link of [0, sections.length, Math.max(without_bytes, 0)])
+            assert.equal(elf.linked_section({ ...sections[0], sh_link }), undefined);
+        assert.equal(elf.strtab(elf.linked_section(sections[0])).get(0), undefined);
+    }
+    assert.ok(linked > files.length, `${linked} sections`);
+    return `${linked} linked sections`;
+});
+
 check('A section past the end is refused, with each list that includes it, and others are not', () => {
     const calls = { 2: ['symtab', 'syms'], 11: ['symtab', 'dynsyms'], 4: ['relocs', 'shdr_relocs'],
         9: ['relocs', 'shdr_relocs'], 7: ['notes', 'iter_note_sections'] };
@@ -675,6 +693,48 @@ check('Fields and calls with goblin\'s names return what goblin returns of store
     }
     assert.ok(lines.length > 40);
     return `${lines.length} stored files as goblin reads them`;
+});
+
+check('Readable data ends with the file', () => {
+    const elf = Elf.parse(own), length = BigInt(own.length), text = elf.section('.text'), code = elf.program_header(0);
+    for (const section of elf.section_headers())
+        assert.deepEqual(elf.readable_data(section), elf.section_data(section));
+    for (const segment of elf.program_headers())
+        assert.deepEqual(elf.readable_data(segment), elf.segment_data(segment));
+    for (const [offset, size, left] of [[length - 3n, 4n, 3], [length, 1n, 0], [length + 1n, 5n, 0], [END, 1n, 0]]) {
+        const section = { ...text, sh_offset: offset, sh_size: size },
+            segment = { ...code, p_offset: offset, p_filesz: size };
+        const wanted = new Uint8Array(own.subarray(own.length - left));
+        assert.throws(() => elf.section_data(section), is_refusal());
+        assert.deepEqual([elf.readable_data(section), elf.readable_data(segment)], [wanted, wanted]);
+        assert.equal(elf.readable_data({ ...section, sh_type: goblin.SHT_NOBITS }), undefined);
+        assert.equal(elf.readable_data({ ...segment, p_filesz: 0n }), undefined);
+    }
+});
+
+check('Numbers in a section or a segment are inside it', () => {
+    const elf = Elf.parse(own), text = elf.section('.text'),
+        code = elf.program_headers().find(({ p_offset }) => p_offset > 0n);
+    const little = (at, size) => BigInt(own.readUIntLE(Number(at), size));
+    assert.throws(() => elf.number_in({ ...text, sh_type: goblin.SHT_NOBITS }, 0, 1), is_refusal(Kind.BAD_OFFSET));
+    for (const [holder, start, size] of [[text, text.sh_offset, text.sh_size], [code, code.p_offset, code.p_filesz]]) {
+        assert.deepEqual([elf.number_in(holder, 3, 4), elf.number_in(holder, 2, 2)],
+            [little(start + 3n, 4), little(start + 2n, 2)]);
+        assert.throws(() => elf.number_in(holder, size, 1), is_refusal(Kind.BAD_OFFSET));
+        assert.throws(() => elf.number_in(holder, size - 3n, 4), is_refusal(Kind.TOO_BIG));
+    }
+});
+
+check('Addresses have offsets in the file', () => {
+    const elf = Elf.parse(own), text = elf.section('.text');
+    for (const { p_offset, p_vaddr, p_filesz } of elf.program_headers()
+        .filter(({ p_type }) => p_type === goblin.PT_LOAD)) {
+        for (const before of [0n, p_filesz - 1n])
+            assert.equal(elf.address_to_offset(p_vaddr + before), p_offset + before);
+    }
+    assert.equal(elf.address_to_offset(elf.header.e_entry), elf.header.e_entry - text.sh_addr + text.sh_offset);
+    assert.equal(elf.address_to_offset(END), undefined);
+    assert.throws(() => Elf.parse(own.subarray(0, 64)).address_to_offset(0), is_refusal(Kind.BUFFER_TOO_SHORT));
 });
 
 check('A library is no position-independent program, and a header can\'t be changed', () => {
