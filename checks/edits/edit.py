@@ -84,11 +84,19 @@ def read_edit(path, kind, crate):
             old = ''
     if not changes or old:
         raise Misfit('an old text without a new one, or no pair at all')
+    if not only and any(is_listed(crate, change) for change in changes):
+        raise Misfit('it changes a list that a module passes on, and names no law by which it is judged')
     if kind == CONTROLS and any(map(is_idle, changes)):
         raise Misfit('a condition of it, or a part of one, is constant')
     has_control = kind != CONTROLS and os.path.isfile(f'crates/{crate}/{CONTROLS}/{path.name}')
     edit = Edit(kind, f'{kind}/{path.stem}', tuple(changes), tuple(only), has_control)
     return replace(edit, read=repr(edit))
+
+
+def is_listed(crate, change):
+    """Whether a text stands in a list of names that a module passes on."""
+    before = text_of(f'crates/{crate}/{change.file}')[:change.start]
+    return change.file.startswith('src/') and before.rfind('pub use ') > before.rfind(';')
 
 
 def start_of(old, path):
