@@ -106,7 +106,7 @@ check_cpu() {
     [ "$status" -ne 2 ] || { grep -F -e "$CPU" "$folder/said" >&2; fail "CPU is $CPU: the toolchain makes no library for it, for the reason above"; }
 }
 if [ "$option" != --uninstall ]; then
-    for made in . crates faces/web faces/python/goblin_elf; do
+    for made in . crates faces/web faces/rust/src faces/python/goblin_elf; do
         [ -w "$made" ] || fail "this folder is read-only, and what is installed is made in it. Use a copy"
     done
     # (what most files need, before the library is made)
