@@ -52,6 +52,7 @@
        symbols, relocations, strings, entries, a number in a range: the range that is passed
        a symbol by its address        the symbols, and all section headers
        a note                         the note; of goblin_note_whole as much of it as is in the range
+       a build ID                     all program headers and section headers, and the notes before it
        a range of bytes               the range
        the dynamic section            the program headers, or without those the section headers, and the range
      So a caller may read parts into buffers of its own: goblin_file over the file's start, and for each other part a
@@ -604,6 +605,17 @@ uint32_t goblin_note_utf8(const goblin_file_t *file, const goblin_range_t *notes
             return 1; */
 uint32_t goblin_note_whole(const goblin_file_t *file, const goblin_range_t *notes, uint64_t alignment, uint64_t offset,
     goblin_note_t *note, goblin_refusal_t *why) GOBLIN_STATUS((1, 2, 5, 6));
+
+/* Finds the build ID of a file: the range of the descriptor of the first note of type GOBLIN_NT_GNU_BUILD_ID whose name
+   is GNU, 4 bytes with its zero byte. It reads the notes of each segment of type GOBLIN_PT_NOTE, in their order, and
+   then those of each section of type GOBLIN_SHT_NOTE, as goblin_note_whole does. It reads at most the first 65,536
+   notes. GOBLIN_END if none of them is a build ID.
+   Refused as goblin_segment_count is. Then at the first note that goblin_note_whole refuses, and if no segment has a
+   build ID as goblin_section_count is.
+   Example: if (goblin_build_id(&file, &range, &why) == GOBLIN_OK)
+                for (index = 0; index < range.size; index++) printf("%02x", file.bytes[range.offset + index]); */
+uint32_t goblin_build_id(const goblin_file_t *file, goblin_range_t *desc, goblin_refusal_t *why)
+    GOBLIN_STATUS((1, 2, 3));
 
 /* ---- the dynamic section ----
 

@@ -168,6 +168,30 @@ static void dynamic(void) {
     table = range_of(ITEMS, sizeof(Elf64_Sym));
 }
 
+/* A build ID after as many notes as are read, or one more, and the same notes in each segment. */
+static void build_id(void) {
+    enum { READ = 65536, NOTES_AT = LONG_AT - (READ + 2) * sizeof(Elf64_Nhdr) };
+    Elf64_Nhdr own = {4, 0, NT_GNU_BUILD_ID};
+    Elf64_Phdr notes;
+    uint8_t *last = bytes + NOTES_AT + READ * sizeof own;
+    memset(&notes, 0, sizeof notes), notes.p_type = PT_NOTE, notes.p_align = 4;
+    memcpy(last, &own, sizeof own), memcpy(last + sizeof own, "GNU", 4);
+    notes.p_filesz = READ * sizeof own + 4, notes.p_offset = NOTES_AT + sizeof own;
+    memcpy(bytes + 128, &notes, sizeof notes);
+    ONCE("the build ID in the last note that is read",
+         goblin_build_id(&file, &range, &why) == GOBLIN_OK && range.offset == (uint64_t)(last - bytes) + 16);
+    notes.p_filesz += sizeof own, notes.p_offset -= sizeof own;
+    memcpy(bytes + 128, &notes, sizeof notes);
+    ONCE("a build ID after the notes that are read", goblin_build_id(&file, &range, &why) == GOBLIN_END);
+    /* (the section headers are counted also if no notes of sections are read) */
+    cut = file, cut.len = LONG_AT - 1;
+    ONCE("that of a file whose section headers are cut",
+         goblin_build_id(&cut, &range, &why) == GOBLIN_REFUSED_TOO_BIG && why.offset == 64);
+    for (uint64_t i = 0; i < SEGMENTS; i++) memcpy(bytes + 128 + i * sizeof notes, &notes, sizeof notes);
+    ONCE("the same notes in each segment", goblin_build_id(&file, &range, &why) == GOBLIN_END);
+    memset(bytes + 128, 0, SEGMENTS * sizeof notes), memset(last, 0, sizeof own + 4);
+}
+
 /* Fills each of the strings with two bytes in turn, and a last byte. */
 static void fill_strings(uint8_t first, uint8_t second, uint8_t last) {
     for (size_t i = 0; i < 4 * LONG_SIZE; i++) {
@@ -297,6 +321,7 @@ int main(void) {
     lists();
     repeated_calls();
     dynamic();
+    build_id();
     strings();
     find("the last of symbols in no order", SCATTERED, start_of(SCATTERED, ITEMS - 1));
     find("the last of symbols at one address", ONE, ITEMS);

@@ -428,6 +428,7 @@ static void file(void) {
     }
     whole(f);
     addresses(f);
+    (void)FINDS_RANGE(goblin_build_id, within, f);
     if (FINDS_RANGE(goblin_dynamic, within, f)) dynamic(f, within);
     put_header();
     SEVERAL(goblin_sections, goblin_section_t, 0, f);

@@ -120,6 +120,36 @@ static void note(goblin_note_t *n) {
     n->name.offset = end, n->name.size = 7, n->desc.offset = end + 8, n->next = end + 16;
 }
 
+/* Tests which note is a build ID: the first of the first section, whose range may go on after it. A segment may have
+   the same note, but ends before the descriptor. */
+static void build_ids(void) {
+    static const struct { const char *name; uint32_t size, n_type, desc, range, in_section, in_segment; } rows[] = {
+        {"GNU", 4, 3, 8, 28, GOBLIN_OK, GOBLIN_REFUSED_BAD_OFFSET}, {"GNU", 4, 3, 0, 28, GOBLIN_OK, GOBLIN_OK},
+        {"GNU", 4, 4, 8, 24, GOBLIN_END, GOBLIN_REFUSED_BAD_OFFSET},
+        {"GNU", 4, 4, 8, 28, GOBLIN_REFUSED_TOO_BIG, GOBLIN_REFUSED_BAD_OFFSET},
+        {"GNU", 3, 3, 8, 24, GOBLIN_END, GOBLIN_REFUSED_BAD_OFFSET},
+        {"GNU\0", 5, 3, 8, 28, GOBLIN_END, GOBLIN_REFUSED_TOO_BIG},
+        {"GNUx", 4, 3, 8, 24, GOBLIN_END, GOBLIN_REFUSED_BAD_OFFSET},
+        {"gnu", 4, 3, 8, 24, GOBLIN_END, GOBLIN_REFUSED_BAD_OFFSET},
+        {"GNU", 4, 3, 0xfff, 28, GOBLIN_REFUSED_TOO_BIG, GOBLIN_REFUSED_BAD_OFFSET},
+        {"gnu", 4, 3, 0, 16, GOBLIN_END, GOBLIN_END}};
+    goblin_range_t found = {0, 0};
+    for (size_t i = 0; i < sizeof rows / sizeof *rows; i++)
+        for (int has_segment = 0; has_segment < 2; has_segment++) {
+            memset(file, 0, sizeof file);
+            end = SECTIONS + 4, put(4, GOBLIN_SHT_NOTE), put(2 * wide, 0), put(wide, NOTES), put(wide, rows[i].range);
+            end = SEGMENTS, put(4, has_segment ? GOBLIN_PT_NOTE : GOBLIN_PT_LOAD);
+            end = SEGMENTS + wide, put(wide, NOTES), end = SEGMENTS + 4 * wide, put(wide, 16);
+            end = NOTES, put(4, rows[i].size), put(4, rows[i].desc), put(4, rows[i].n_type);
+            memcpy(file + end, rows[i].name, rows[i].size);
+            uint32_t status = has_segment ? rows[i].in_segment : rows[i].in_section;
+            /* (for a build ID in a segment no section headers are read) */
+            f.header.e_shoff = has_segment && status == GOBLIN_OK ? sizeof file : (size_t)SECTIONS;
+            SAME(goblin_build_id(&f, &found, &why), status);
+            if (status == GOBLIN_OK) SAME(found.offset, NOTES + 16), SAME(found.size, rows[i].desc);
+        }
+}
+
 /* Tests the calls for the dynamic section: an entry, `wanted.dyn`, and the one that ends them. The file has no segment
    of it. */
 static void dynamic_all(void) {
@@ -479,7 +509,8 @@ static void call_with_nulls(void) {
     }
     SAME(goblin_segment_count(&f, &number, &why), OK), IS(END, goblin_segment, 0, &p);
     IS(END, goblin_segments, 0, NULL, 0, &number), IS(END, goblin_address_to_offset, 0, &number);
-    SAME(goblin_dynamic(&f, &text, &why), BAD), IS(BAD, goblin_number, 0, 8, &number);
+    SAME(goblin_dynamic(&f, &text, &why), BAD), SAME(goblin_build_id(&f, &text, &why), BAD);
+    IS(BAD, goblin_number, 0, 8, &number);
     /* (a range of no bytes, and one of a byte) */
 #define BOTH(of_none, of_one, call, ...) \
     (IS(of_none, call, &nothing, __VA_ARGS__), IS(of_one, call, &some, __VA_ARGS__))
@@ -680,6 +711,7 @@ int main(int argc, char **argv) {
     for (int kind = 0; kind < 4; kind++) {
         wide = kind < 2 ? 8 : 4, is_big = kind % 2;
         read_all();
+        build_ids();
         refuse_all();
         call_with_nulls();
     }

@@ -650,6 +650,35 @@ uint32_t goblin_note_whole(const goblin_file_t *file, const goblin_range_t *note
                      why);
 }
 
+/* Reads the notes of a range up to a build ID, of which so many may be read. Returns whether the search ends here. */
+static bool ends_search(const goblin_file_t *file, goblin_range_t notes, uint64_t alignment, uint64_t *left,
+                        goblin_range_t *desc, uint32_t *status, goblin_refusal_t *why) {
+    goblin_note_t n;
+    for (n.next = notes.offset; *left > 0 && !is_past(&notes, n.next); *left -= 1) {
+        if ((*status = goblin_note_whole(file, &notes, alignment, n.next, &n, why))) return true;
+        if (n.n_type == 3 && n.name.size == 3 && get(file->bytes + n.name.offset, 4, true) == 0x474e5500)
+            return *desc = n.desc, true;
+    }
+    return false;
+}
+
+uint32_t goblin_build_id(const goblin_file_t *file, goblin_range_t *desc, goblin_refusal_t *why) {
+    uint64_t count, left = 65536;
+    goblin_segment_t p;
+    goblin_section_t s;
+    uint32_t status = goblin_segment_count(file, &count, why);
+    for (uint64_t i = 0; !status && i < count; i++)
+        if (!goblin_segment(file, i, &p, why) && p.p_type == GOBLIN_PT_NOTE
+            && ends_search(file, p.file, p.p_align, &left, desc, &status, why))
+            return status;
+    if (!status) status = goblin_section_count(file, &count, why);
+    for (uint64_t i = 0; !status && i < count; i++)
+        if (!goblin_section(file, i, &s, why) && s.sh_type == GOBLIN_SHT_NOTE
+            && ends_search(file, s.file, s.sh_addralign, &left, desc, &status, why))
+            return status;
+    return status ? status : (uint32_t)GOBLIN_END;
+}
+
 /* ---- the dynamic section ---- */
 
 /* Finds the first section of type GOBLIN_SHT_DYNAMIC in a file without segments, and sets `*is_by_sections`. */
