@@ -858,10 +858,11 @@ uint64_t goblin_visibility_to_str(uint8_t visibility, void *text, size_t capacit
    Example: goblin_note_type_to_str(GOBLIN_LITERAL("GNU"), note.n_type, text, sizeof text); */
 uint64_t goblin_note_type_to_str(const void *name, size_t name_len, uint32_t n_type, void *text, size_t capacity);
 /* Writes the text of a refusal in the library's words, such as "type is too big (64) for 52": 64 bytes are needed, and
-   52 are left. For GOBLIN_REFUSED_INTEGER_FIT print the number (`first`) and `offset`, too, and for goblin_note_whole
-   the part (`item`), since the text has no words for them. The text depends on `*why` alone, which a caller may fill
-   itself: a `fourth` that means yes or no is yes unless it is 0; an `item` that is none of GOBLIN_ITEM_INVALID_UTF8 and
-   the like has the empty name; a `kind` that is no refusal has the empty text.
+   52 are left. The text of GOBLIN_REFUSED_INTEGER_FIT ends with the number and the offset of its field, such as
+   ": 4294967296 at offset 24". For goblin_note_whole print the part (`item`), too, since the text has no words for it.
+   The text depends on `*why` alone, which a caller may fill itself: a `fourth` that means yes or no is yes unless it is
+   0; an `item` that is none of GOBLIN_ITEM_INVALID_UTF8 and the like has the empty name; a `kind` that is no refusal
+   has the empty text.
    Example: goblin_refusal_to_str(&why, text, sizeof text); */
 uint64_t goblin_refusal_to_str(const goblin_refusal_t *why, void *text, size_t capacity) GOBLIN_GIVEN((1));
 

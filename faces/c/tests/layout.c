@@ -562,7 +562,8 @@ static void call_with_nulls(void) {
    fills the buffer has none. */
 static void close_texts(void) {
     char text[161];
-    goblin_refusal_t longest = {0, 0, UINT64_MAX, UINT64_MAX, UINT64_MAX, 0, 0};
+    goblin_refusal_t longest = {0, 0, UINT64_MAX, UINT64_MAX, UINT64_MAX, 0, UINT64_MAX};
+    goblin_refusal_t misfit = {GOBLIN_REFUSED_INTEGER_FIT, 0, (uint64_t)1 << 32, 0, 0, 0, 24};
     for (longest.kind = 0; longest.kind <= GOBLIN_REFUSED_INTEGER_FIT + 1; longest.kind++)
         for (longest.item = 0; longest.item <= GOBLIN_ITEM_PROGRAM_HEADERS; longest.item++) {
             memset(text, 0xee, sizeof text);
@@ -572,6 +573,11 @@ static void close_texts(void) {
             goblin_refusal_to_str(&longest, text, (size_t)size);
             SAME((uint8_t)text[size], 0xee);
         }
+    for (misfit.item = 0; misfit.item <= GOBLIN_ITEM_ADDEND; misfit.item += GOBLIN_ITEM_ADDEND) {
+        goblin_refusal_to_str(&misfit, text, 160);
+        SAME(strcmp(text, "Malformed entity: Integer do not fit: out of range integral type conversion attempted: "
+                          "4294967296 at offset 24"), 0);
+    }
     memset(text, 0xee, sizeof text);
     SAME(goblin_class_to_str(2, text, 6), strlen("ELF64")), SAME(strcmp(text, "ELF64"), 0);
 }

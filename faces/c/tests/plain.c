@@ -851,7 +851,7 @@ static void number(out_t *out, uint64_t value, unsigned base) {
     sign(out, "0123456789abcdef"[value % base]);
 }
 
-/* Writes a format, in which %d and %x stand for the next number, and %s for the item. */
+/* Writes a format, in which %d and %x stand for the next number, %s for the item, and %o for the offset. */
 static void write(out_t *out, const char *format, const goblin_refusal_t *why) {
     static const char *const items[] = {"", "invalid utf8", "section headers", "program headers"};
     const uint64_t numbers[] = {why->first, why->second, why->third};
@@ -859,6 +859,7 @@ static void write(out_t *out, const char *format, const goblin_refusal_t *why) {
         if (*format != '%') sign(out, *format);
         else if (*++format == 's') word(out, why->item < 4 ? items[why->item] : "");
         else if (*format == 'b') word(out, why->fourth ? "true" : "false");
+        else if (*format == 'o') number(out, why->offset, 10);
         else number(out, numbers[next++], *format == 'd' ? 10 : 16);
     }
 }
@@ -875,7 +876,7 @@ uint64_t goblin_refusal_to_str(const goblin_refusal_t *why, void *text, size_t c
         "Strtable size (%d) + offset (%d) is out of bounds for %d #bytes. Overflowed: %b",
         "Section %d size (%d) + offset (%d) is out of bounds. Overflowed: %b",
         "Section %d size (%d) + addr (%d) is out of bounds. Overflowed: %b",
-        "Integer do not fit: out of range integral type conversion attempted"};
+        "Integer do not fit: out of range integral type conversion attempted: %d at offset %o"};
     out_t out = {(uint8_t *)text, capacity, 0};
     const char *format = why->kind < sizeof formats / sizeof *formats ? formats[why->kind] : NULL;
     if (format && why->kind >= 10) word(&out, "Malformed entity: ");
