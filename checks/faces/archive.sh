@@ -110,28 +110,27 @@ unchanged() {
     quietly diff -r --no-dereference "$folder/earlier" "$whole"
     rm -rf "$folder/earlier"
 }
+# Tests one without rights to write to a folder below: refused BELOW [OPTION]
+refused() {
+    cp -R "$whole" "$folder/earlier"
+    chmod a-w "$whole/$1"
+    ends_with 2 "PREFIX is *: */$1 is no folder that can be written to" \
+        restricted env PROGRAM="$folder/program" sh faces/install.sh ${2:+"$2"} "$whole"
+    unchanged
+}
 if restricted true 2> "$folder/output"; then
     quietly env PROGRAM="$folder/program" sh faces/install.sh "$whole"
     compiled=share/goblin_c/python/goblin_elf/__pycache__
     mkdir "$whole/$compiled"
     touch "$whole/$compiled/made"
     for below in include lib bin share/man/man1 share/goblin_c share/goblin_c/rust/src $compiled; do
-        for option in '' --uninstall; do
-            cp -R "$whole" "$folder/earlier"
-            chmod a-w "$whole/$below"
-            ends_with 2 "PREFIX is *: */$below is no folder that can be written to" \
-                restricted env PROGRAM="$folder/program" sh faces/install.sh ${option:+$option} "$whole"
-            unchanged
-        done
+        refused "$below"
+        refused "$below" --uninstall
     done
     for below in include lib bin share; do
         rm -rf "$whole"
         mkdir -p "$whole/include" "$whole/lib" "$whole/bin" "$whole/share"
-        cp -R "$whole" "$folder/earlier"
-        chmod a-w "$whole/$below"
-        ends_with 2 "PREFIX is *: */$below is no folder that can be written to" \
-            restricted env PROGRAM="$folder/program" sh faces/install.sh "$whole"
-        unchanged
+        refused "$below"
     done
 else
     left_out 'setpriv is not installed or takes root no rights, so nothing is installed into folders that can not be written to'

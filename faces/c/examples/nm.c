@@ -33,8 +33,7 @@ static int section_letter(const goblin_section_t *section) {
     if (section->sh_flags & GOBLIN_SHF_ALLOC) return section->sh_flags & GOBLIN_SHF_WRITE ? 'd' : 'r';
     for (size_t i = 0; i < sizeof debugging / sizeof *debugging; i++)
         if (starts(section, debugging[i])) return 'N';
-    if (goblin_string_is(&file, &names_of_sections.file, section->sh_name, GOBLIN_LITERAL(".gdb_index")))
-        return 'N';
+    if (goblin_string_is(&file, &names_of_sections.file, section->sh_name, GOBLIN_LITERAL(".gdb_index"))) return 'N';
     return section->sh_flags & GOBLIN_SHF_WRITE ? '?' : 'n';
 }
 
@@ -61,8 +60,7 @@ static int letter(const goblin_symbol_t *symbol, const goblin_section_t *section
 
 /* Finds the section of type SHT_SYMTAB_SHNDX that belongs to the symbol table with this index, if there is one. */
 static bool find_indices(uint64_t table, goblin_section_t *indices) {
-    for (uint64_t i = 0;
-         goblin_section_by_type(&file, GOBLIN_SHT_SYMTAB_SHNDX, i, &i, indices, &why) == GOBLIN_OK; i++)
+    for (uint64_t i = 0; goblin_section_by_type(&file, GOBLIN_SHT_SYMTAB_SHNDX, i, &i, indices, &why) == GOBLIN_OK; i++)
         if (indices->sh_link == table) return true;
     return false;
 }
@@ -75,8 +73,7 @@ static int list(uint64_t index_of_table, const goblin_section_t *table) {
         return print_refusal("nm: string table");
     goblin_symbol_t symbol;
     uint32_t status;
-    for (uint64_t i = 1;
-         (status = goblin_symbol(&file, &table->file, i, &symbol, &why)) == GOBLIN_OK; i++) {
+    for (uint64_t i = 1; (status = goblin_symbol(&file, &table->file, i, &symbol, &why)) == GOBLIN_OK; i++) {
         goblin_section_t section;
         uint64_t index = symbol.st_shndx;
         bool is_index = index < GOBLIN_SHN_LORESERVE || (index == GOBLIN_SHN_XINDEX && has_indices
@@ -102,8 +99,7 @@ int main(int argc, char **argv) {
     if (argc != 2 + is_dynamic) return fputs("usage: nm [-D] FILE\n", stderr), 2;
     if (!load(argv[argc - 1])) return perror(argv[argc - 1]), 2;
     if (goblin_file(bytes, len, &file, &why) != GOBLIN_OK) return print_refusal("nm: header");
-    if (goblin_names_section(&file, &names_of_sections, &why) > GOBLIN_END)
-        return print_refusal("nm: sections");
+    if (goblin_names_section(&file, &names_of_sections, &why) > GOBLIN_END) return print_refusal("nm: sections");
     uint32_t type = is_dynamic ? GOBLIN_SHT_DYNSYM : GOBLIN_SHT_SYMTAB;
     goblin_section_t table;
     uint64_t index;

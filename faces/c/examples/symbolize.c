@@ -129,8 +129,7 @@ static uint32_t find(uint64_t address, uint64_t *index) {
 static uint32_t find_table(goblin_section_t *table, goblin_section_t *names) {
     uint64_t index;
     uint32_t status = goblin_section_by_type(&file, GOBLIN_SHT_SYMTAB, 0, &index, table, &why);
-    if (status == GOBLIN_END)
-        status = goblin_section_by_type(&file, GOBLIN_SHT_DYNSYM, 0, &index, table, &why);
+    if (status == GOBLIN_END) status = goblin_section_by_type(&file, GOBLIN_SHT_DYNSYM, 0, &index, table, &why);
     return status == GOBLIN_OK ? goblin_linked_section(&file, table->sh_link, names, &why) : status;
 }
 

@@ -27,8 +27,7 @@ static int list(void) {
         if (table.sh_type != GOBLIN_SHT_SYMTAB && table.sh_type != GOBLIN_SHT_DYNSYM) continue;
         goblin_section_t strings = none;
         if (goblin_linked_section(&file, table.sh_link, &strings, &why) > GOBLIN_END) return refused();
-        for (uint64_t k = 0;
-             (status = goblin_symbol(&file, &table.file, k, &symbol, &why)) == GOBLIN_OK; k++) {
+        for (uint64_t k = 0; (status = goblin_symbol(&file, &table.file, k, &symbol, &why)) == GOBLIN_OK; k++) {
             goblin_range_t name = {0, 0};
             if (goblin_string_utf8(&file, &strings.file, symbol.st_name, &name, &why) > GOBLIN_END) return refused();
             printf("%" PRIx64 " ", symbol.st_value),

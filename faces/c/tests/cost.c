@@ -136,8 +136,7 @@ static void repeated_calls(void) {
     REPEATED("each symbol of a 32-bit file", goblin_symbol(&other, &table, i, &symbol, &why));
     other = file, other.header.ei_data = ELFDATA2MSB;
     REPEATED("each symbol of a big-endian file", goblin_symbol(&other, &table, i, &symbol, &why));
-    REPEATED("each symbol by its name",
-             goblin_symbol_by_name(&file, &table, &table, "", 0, i, &number, &symbol, &why));
+    REPEATED("each symbol by its name", goblin_symbol_by_name(&file, &table, &table, "", 0, i, &number, &symbol, &why));
     REPEATED("the number of relocations", goblin_reloc_count(&file, &table, true, &number, &why));
     REPEATED("relocations one by one", goblin_relocs(&file, &table, true, i, &reloc, 1, &number, &why));
     REPEATED("each number of the file", goblin_number(&file, i * 8, 8, &number, &why));
@@ -296,8 +295,7 @@ static void writing(void) {
     REPEATED("each relocation written", goblin_put_reloc(bytes, len, header, &table, true, i, &reloc, &why));
     REPEATED("each entry written", goblin_put_dynamic_entry(bytes, len, header, &table, i, &entry, &why));
     REPEATED("each number written", goblin_put_number(bytes, len, header, 128 + i * 8, 8, i, &why));
-    REPEATED("each number of a range written",
-             goblin_put_number_in(bytes, len, header, &table, i * 8, 8, i, &why));
+    REPEATED("each number of a range written", goblin_put_number_in(bytes, len, header, &table, i * 8, 8, i, &why));
 }
 
 /* Makes the file, with a header whose section names are the last section that e_shstrndx can say. */

@@ -33,14 +33,6 @@ static void put_bytes(goblin_range_t range) {
     for (uint64_t i = 0; i < range.size; i++) printf("%02x", bytes[range.offset + i]);
 }
 
-/* Prints the size of a range and its first bytes. */
-static void put_data(goblin_range_t range) {
-    goblin_range_t first = {range.offset, range.size < FIRST ? range.size : FIRST};
-    printf(" %" PRIx64, range.size);
-    put_bytes(first);
-    putchar('\n');
-}
-
 /* Prints the name of a call, and GOBLIN_END or the refusal if it returned one. Returns whether it has a result. */
 static bool put_status(const char *what, uint32_t status) {
     printf("%s", what);
@@ -198,8 +190,9 @@ static void part(uint32_t status, goblin_range_t found, goblin_range_t range) {
     uint64_t number;
     if (status > GOBLIN_END) goblin_range_in_file(&file, &range, &cut);
     printf("goblin_range_in_file");
+    goblin_range_t first = {cut.offset, cut.size < FIRST ? cut.size : FIRST};
     if (status == GOBLIN_END) puts(" none");
-    else put_data(cut);
+    else printf(" %" PRIx64, cut.size), put_bytes(first), putchar('\n');
     SHOW(goblin_number_in, number, number, &file, &range, 0, 8);
     SHOW(goblin_number_in, number, number, &file, &range, range.size / 2, 2);
     SHOW(goblin_number_in, number, number, &file, &range, range.size - 1, 1);

@@ -14,17 +14,11 @@ static const struct {
     const char *name;
     uint32_t type, flags, link, info;
 } sections[] = {
-    {"", SHT_NULL, 0, 0, 0},
-    {".text", SHT_PROGBITS, SHF_ALLOC | SHF_EXECINSTR, 0, 0},
-    {".data", SHT_PROGBITS, SHF_ALLOC | SHF_WRITE, 0, 0},
-    {".bss", SHT_NOBITS, SHF_ALLOC | SHF_WRITE, 0, 0},
-    {".rodata", SHT_PROGBITS, SHF_ALLOC, 0, 0},
-    {".debug_info", SHT_PROGBITS, 0, 0, 0},
-    {".comment", SHT_PROGBITS, 0, 0, 0},
-    {".symtab", SHT_SYMTAB, 0, 8, 7},
-    {".strtab", SHT_STRTAB, 0, 0, 0},
-    {".rela.text", SHT_RELA, SHF_INFO_LINK, 7, 1},
-    {".note", SHT_NOTE, 0, 0, 0},
+    {"", SHT_NULL, 0, 0, 0}, {".text", SHT_PROGBITS, SHF_ALLOC | SHF_EXECINSTR, 0, 0},
+    {".data", SHT_PROGBITS, SHF_ALLOC | SHF_WRITE, 0, 0}, {".bss", SHT_NOBITS, SHF_ALLOC | SHF_WRITE, 0, 0},
+    {".rodata", SHT_PROGBITS, SHF_ALLOC, 0, 0}, {".debug_info", SHT_PROGBITS, 0, 0, 0},
+    {".comment", SHT_PROGBITS, 0, 0, 0}, {".symtab", SHT_SYMTAB, 0, 8, 7}, {".strtab", SHT_STRTAB, 0, 0, 0},
+    {".rela.text", SHT_RELA, SHF_INFO_LINK, 7, 1}, {".note", SHT_NOTE, 0, 0, 0},
 };
 
 static const struct {
@@ -33,27 +27,18 @@ static const struct {
     uint8_t bind, type;
     uint16_t section;
 } symbols[] = {
-    {"", 0, 0, STB_LOCAL, STT_NOTYPE, SHN_UNDEF},
-    {"made.c", 0, 0, STB_LOCAL, STT_FILE, SHN_ABS},
-    {"", 0, 0, STB_LOCAL, STT_SECTION, 1},
-    {"", 0, 0, STB_LOCAL, STT_SECTION, 5},
-    {"local_function", 0x10, 2, STB_LOCAL, STT_FUNC, 1},
-    {"local_data", 0x8, 4, STB_LOCAL, STT_OBJECT, 2},
-    {"comment", 0x3, 0, STB_LOCAL, STT_NOTYPE, 6},
-    {"function", 0x12, 2, STB_GLOBAL, STT_FUNC, 1},
-    {"data", 0x4, 4, STB_GLOBAL, STT_OBJECT, 2},
-    {"zeros", 0x6, 16, STB_GLOBAL, STT_OBJECT, 3},
-    {"constant", 0x2, 1, STB_GLOBAL, STT_OBJECT, 4},
-    {"weak_function", 0x14, 2, STB_WEAK, STT_FUNC, 1},
-    {"weak_data", 0xc, 4, STB_WEAK, STT_OBJECT, 2},
-    {"undefined", 0, 0, STB_GLOBAL, STT_NOTYPE, SHN_UNDEF},
+    {"", 0, 0, STB_LOCAL, STT_NOTYPE, SHN_UNDEF}, {"made.c", 0, 0, STB_LOCAL, STT_FILE, SHN_ABS},
+    {"", 0, 0, STB_LOCAL, STT_SECTION, 1}, {"", 0, 0, STB_LOCAL, STT_SECTION, 5},
+    {"local_function", 0x10, 2, STB_LOCAL, STT_FUNC, 1}, {"local_data", 0x8, 4, STB_LOCAL, STT_OBJECT, 2},
+    {"comment", 0x3, 0, STB_LOCAL, STT_NOTYPE, 6}, {"function", 0x12, 2, STB_GLOBAL, STT_FUNC, 1},
+    {"data", 0x4, 4, STB_GLOBAL, STT_OBJECT, 2}, {"zeros", 0x6, 16, STB_GLOBAL, STT_OBJECT, 3},
+    {"constant", 0x2, 1, STB_GLOBAL, STT_OBJECT, 4}, {"weak_function", 0x14, 2, STB_WEAK, STT_FUNC, 1},
+    {"weak_data", 0xc, 4, STB_WEAK, STT_OBJECT, 2}, {"undefined", 0, 0, STB_GLOBAL, STT_NOTYPE, SHN_UNDEF},
     {"weak_undefined", 0, 0, STB_WEAK, STT_NOTYPE, SHN_UNDEF},
     {"weak_undefined_data", 0, 0, STB_WEAK, STT_OBJECT, SHN_UNDEF},
     {"absolute", 0x7654321, 0, STB_GLOBAL, STT_NOTYPE, SHN_ABS},
-    {"common", 8, 0x20, STB_GLOBAL, STT_OBJECT, SHN_COMMON},
-    {"unique", 0x14, 4, STB_GNU_UNIQUE, STT_OBJECT, 2},
-    {"indirect", 0x16, 2, STB_GLOBAL, STT_GNU_IFUNC, 1},
-    {"\303\251t\303\251", 0x18, 2, STB_GLOBAL, STT_FUNC, 1},
+    {"common", 8, 0x20, STB_GLOBAL, STT_OBJECT, SHN_COMMON}, {"unique", 0x14, 4, STB_GNU_UNIQUE, STT_OBJECT, 2},
+    {"indirect", 0x16, 2, STB_GLOBAL, STT_GNU_IFUNC, 1}, {"\303\251t\303\251", 0x18, 2, STB_GLOBAL, STT_FUNC, 1},
 };
 enum { COUNT = sizeof sections / sizeof *sections, SYMBOLS = sizeof symbols / sizeof *symbols };
 

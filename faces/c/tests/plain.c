@@ -390,8 +390,7 @@ uint32_t goblin_section_by_name(const goblin_file_t *file, const goblin_range_t 
     if (!status) status = strings_inside(file->len, names, why);
     for (uint64_t i = first; !status && i < count; i++) {
         goblin_section_t s = section_at(file->bytes, &file->header, i);
-        if (goblin_string_is(file, names, s.sh_name, name, name_len))
-            return *index = i, *section = s, GOBLIN_OK;
+        if (goblin_string_is(file, names, s.sh_name, name, name_len)) return *index = i, *section = s, GOBLIN_OK;
     }
     return status ? status : (uint32_t)GOBLIN_END;
 }
@@ -617,8 +616,7 @@ static uint32_t read_note(const uint8_t *bytes, uint64_t end, const goblin_heade
         return why->item = is_whole ? GOBLIN_ITEM_NOTE_NAME : 0, status;
     if (is_text && !is_utf8(bytes + offset + NOTE_SIZE, name_size))
         return refuse_item(why, GOBLIN_REFUSED_BAD_INPUT, GOBLIN_ITEM_INVALID_UTF8, left - NOTE_SIZE, offset);
-    if ((status = inside(left, at, desc, offset, why)))
-        return why->item = is_whole ? GOBLIN_ITEM_NOTE_DESC : 0, status;
+    if ((status = inside(left, at, desc, offset, why))) return why->item = is_whole ? GOBLIN_ITEM_NOTE_DESC : 0, status;
     note->n_type = (uint32_t)get(bytes + offset + 8, 4, is_big(h));
     note->name.offset = offset + NOTE_SIZE, note->name.size = name_size;
     note->desc.offset = offset + at, note->desc.size = desc;
