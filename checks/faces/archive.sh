@@ -10,10 +10,10 @@ export LIBRARY="$folder/libgoblin_c.a" TARGET='' CPU=''
 
 # (a program in place of goblin_show, which another part of a test may build meanwhile)
 printf '#!/bin/sh\ncat "%s/crates/goblin_show/stdout"\n' "$PWD" > "$folder/program"
-copy_sources "$folder/copy"
+copy_sources "$folder/sources"
 for mask in 077 022; do
     mkdir "$folder/$mask&|"
-    if [ $mask = 077 ]; then from=$folder/copy; else from=.; fi
+    if [ $mask = 077 ]; then from=$folder/sources; else from=.; fi
     (umask $mask && cd "$from" && quietly env TMPDIR="$(realpath --relative-to=. "$folder/$mask&|")" PROGRAM="$folder/program" \
         sh faces/install.sh --archive "$folder/made.$mask/goblin_c.tar.gz")
 done

@@ -12,8 +12,8 @@ check_axioms
 build dump -std=c99
 tar -C "$folder" -xzf "$folder/goblin_web.tar.gz"
 mv "$folder"/goblin_c-*/share/goblin_c/web "$web"
-copy_sources "$folder/copy"
-(cd "$folder/copy" && quietly env LIBRARY="$web/goblin_c.wasm" CPU= TARGET=wasm64-unknown-unknown sh faces/install.sh --archive ../again.tar.gz)
+copy_sources "$folder/sources"
+(cd "$folder/sources" && quietly env LIBRARY="$web/goblin_c.wasm" CPU= TARGET=wasm64-unknown-unknown sh faces/install.sh --archive ../again.tar.gz)
 quietly cmp "$folder/goblin_web.tar.gz" "$folder/again.tar.gz"
 # (what is made of goblin.h is what the script makes)
 python3 faces/constants.py --made
