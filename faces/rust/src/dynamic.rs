@@ -175,7 +175,8 @@ impl Iterator for DynValues<'_> {
 
 impl FusedIterator for DynValues<'_> {}
 
-/// What the dynamic section says, which needs no section headers. Of several entries with one tag the last one counts.
+/// What the dynamic section says, which needs no section headers. Of several entries with one tag the last one counts, as
+/// in goblin, but of `DT_STRTAB` and `DT_STRSZ` the first one, as in readelf.
 impl<'a> Elf<'a> {
     /// Returns the relocations with addends, by `DT_RELA` and `DT_RELASZ`. There are none without these entries.
     ///
@@ -284,8 +285,9 @@ impl<'a> Elf<'a> {
             Some(dynamic) => dynamic,
             None => return Ok(Vec::new()),
         };
-        let strings = self.dynstrtab()?;
         let mut offsets: Vec<(u64, usize)> = dynamic.values(tag).zip(0..).collect();
+        // (as for a name that is not there, the strings are not read)
+        let strings = if offsets.is_empty() { Strtab::default() } else { self.dynstrtab()? };
         offsets.sort_unstable();
         let mut texts = vec![""; offsets.len()];
         let (mut start, mut text) = (0, "");

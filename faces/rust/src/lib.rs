@@ -65,8 +65,14 @@
 //!
 //! The symbols of `dynsyms` are those of the section of type `SHT_DYNSYM`. goblin counts those at `DT_SYMTAB` by
 //! `DT_GNU_HASH`, or else by `DT_HASH`, and at least up to the highest index in a relocation. Without such a section
-//! they are refused here, so a program that goes on without them writes `elf.dynsyms().ok().flatten()`. A name of the
-//! dynamic section that can't be read is an error; goblin leaves it out.
+//! they are refused here with [`Kind::NotCounted`], which a program that goes on without them matches. A name of the
+//! dynamic section that can't be read is an error, and so is an interpreter that is not UTF-8; goblin leaves them out.
+//! A program that does so, too, reads [`dynamic::Dynamic::values`] of `DT_NEEDED` one by one, each by
+//! [`strtab::Strtab::get`] of [`Elf::dynstrtab`].
+//!
+//! goblin's modules `elf::header`, `elf::sym` and so on are `goblin_rs::header`, `goblin_rs::sym` here. Its
+//! [`Elf::parse`] refuses a file of which any part is refused; here only the header is read, so a program that asks
+//! whether a file can be read also asks for the lists that it needs.
 //!
 //! goblin has no searches. Here [`Elf::section`], [`Elf::section_by_name`] and [`Elf::section_by_type`] find a section,
 //! and the calls of [`sym::Symtab`] that begin with `symbol_by_` a symbol, by its name or an address.
@@ -78,17 +84,18 @@
 //! |`is_64`, `little_endian`, `entry`, `is_lib`|`is_64()`, `little_endian()`, `entry()`, `is_lib()?`|
 //! |`program_headers`, `section_headers`|`program_headers()?`, `section_headers()?`|
 //! |`shdr_strtab`, `dynstrtab`|`shdr_strtab()?`, `dynstrtab()?`|
-//! |`syms`, `strtab`|`syms()?`, `None` if there is no table, and its `strtab()`|
-//! |`dynsyms`|`dynsyms()?`, `None` if there are none|
-//! |`dynamic`|`dynamic()?`, with `entries()` for `dyns`, up to `DT_NULL`, and `value(tag)` for `info`|
+//! |`syms`, `strtab`|`syms()?.unwrap_or_default()`, and its `strtab()`|
+//! |`dynsyms`|`dynsyms()?.unwrap_or_default()`|
+//! |`dynamic`|`dynamic()?`, with `entries()` for `dyns`, up to `DT_NULL`, and for `info` the last of `values(tag)`|
 //! |`dynrelas`, `dynrels`, `pltrelocs`, `shdr_relocs`|`dynrelas()?`, `dynrels()?`, `pltrelocs()?`, `shdr_relocs()?`|
 //! |`libraries`, `rpaths`, `runpaths`, `soname`|`libraries()?`, `rpaths()?`, `runpaths()?`, `soname()?`|
-//! |`interpreter`|`interpreter()?`, up to its first zero byte|
+//! |`interpreter`|`interpreter()?`, up to its first zero byte, and an error if it is not UTF-8|
 //! |`versym`, `verdef`, `verneed`|not here|
 //!
 //! |call of goblin|here|
 //! |---|---|
-//! |`Elf::parse`, `is_object_file`|the same|
+//! |`Elf::parse`|the same, but it reads only the header|
+//! |`is_object_file`|the same|
 //! |`Elf::parse_header`, `Elf::lazy_parse`|`Elf::parse`, which reads only the header|
 //! |`Elf::parse_with_opts`, permissive|[`Elf::whole`], and the calls that begin with `readable_`|
 //! |`iter_note_headers`, `iter_note_sections`|the same without arguments|
@@ -100,7 +107,8 @@
 //! |`r_info`, `r_sym`, `r_type` of an `r_info`|not here. A [`reloc::Reloc`] has the last two|
 //! |`parse`, `size`, `check_size`, `from_bytes`, `from_fd` of records|not here: lists read them|
 //! |`pwrite_with` of a record|a call of [`header::Header`] whose name begins with `put`|
-//! |what reads symbol versions, hash tables, compressed sections, archives, Mach-O or PE|not here|
+//! |`compression_header`|the constants in [`other`], and [`Elf::number_in`] for its fields|
+//! |what reads symbol versions, hash tables, archives, Mach-O or PE|not here|
 //!
 //! These lines, the comments, work with goblin, each before what to write instead:
 //!

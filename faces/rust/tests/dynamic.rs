@@ -167,6 +167,12 @@ fn names_of_the_dynamic_section() {
         }
         assert_eq!((without.libraries(), without.soname(), without.interpreter()), (Ok(vec![]), Ok(None), Ok(None)));
         assert_eq!(without.dynstrtab().and_then(|strings| strings.get(0)), Ok(None));
+        // (without a name the strings are not read, which are not inside the file)
+        let past = with_dynamic(form, &[(DT_STRTAB, 0x4000), (DT_STRSZ, 1 << 20)]);
+        let past = Elf::parse(&past).unwrap();
+        assert!(past.dynstrtab().is_err());
+        assert_eq!([past.libraries(), past.rpaths(), past.runpaths()], [Ok(vec![]), Ok(vec![]), Ok(vec![])]);
+        assert_eq!(past.soname(), Ok(None));
     });
 }
 
