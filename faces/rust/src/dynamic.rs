@@ -175,8 +175,8 @@ impl Iterator for DynValues<'_> {
 
 impl FusedIterator for DynValues<'_> {}
 
-/// What the dynamic section says, which needs no section headers. Of several entries with one tag the last one counts, as
-/// in goblin, but of `DT_STRTAB` and `DT_STRSZ` the first one, as in readelf.
+/// What the dynamic section says, which needs no section headers. Of several entries with one tag the last one counts,
+/// as in goblin, but of `DT_STRTAB` and `DT_STRSZ` the first one, as in readelf.
 impl<'a> Elf<'a> {
     /// Returns the relocations with addends, by `DT_RELA` and `DT_RELASZ`. There are none without these entries.
     ///
