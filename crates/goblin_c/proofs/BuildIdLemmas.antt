@@ -32,6 +32,7 @@ module _ (bytes : List ℕ) (h : GoblinHeader) (range : GoblinRange) (alignment 
   fewer (suc left) (suc most) offset within =
       grind (arith, take-nil {A = Result GoblinNote GoblinRefusal} left, fewer left most)
 
+-- the first so many items of a list and another
 take_both : {X : Type 0} (left more : ℕ) (xs ys : List X)
     → more ≡ left - length xs → take left (xs ++ ys) ≡ take left xs ++ take more ys
 take_both (suc left) more (x ∷ xs) ys is = grind (arith, take_both left more xs ys)
