@@ -63,12 +63,6 @@ pub laid-nowhere : {X : Type 0} (xs : List X) → laid xs [] ≡ []
 laid-nowhere [] = refl
 laid-nowhere (x ∷ xs) = refl
 
--- what is written after what was written before
-pub laid-appended : {X : Type 0} (xs ys old : List X)
-    → take (length xs) (laid xs old) ++ laid ys (drop (length xs) (laid xs old)) ≡ laid (xs ++ ys) old
-laid-appended (x ∷ xs) ys (o ∷ os) = grind (arith, laid-appended xs ys os)
-laid-appended xs ys old = grind (arith, laid-nowhere)
-
 -- nothing is written past the buffer's end
 pub laid-past : {X : Type 0} (n : ℕ) (xs old : List X) → length old ≤ n → take n old ++ laid xs (drop n old) ≡ old
 laid-past (suc n) xs (o ∷ os) h = grind (arith, laid-past n xs os)
@@ -122,35 +116,21 @@ pub short_parts : (parts : List Part)
     → (length parts ≤ 16) × ((i : ℕ) (d : Part) → i < length parts → IsTrue (is_short (get_or parts i d)))
 short_parts parts short = grind (arith, nat_tests, and_parts, leb-true, short_at)
 
--- the step of a loop that writes parts
-pub laid-part : (text more part old now new : List ℕ) (len : ℕ)
-    → more ≡ text ++ part → now ≡ laid text old → len ≡ length text → new ≡ take len now ++ laid part (drop len now)
-    → new ≡ laid more old
-laid-part text more part old now new len is was long step = grind (arith, nat_tests, laid-appended)
-
-pub long-part : (text more part : List ℕ) (n len : ℕ)
-    → more ≡ text ++ part → len ≡ length text → n ≡ len + length part → n ≡ length more
-long-part text more part n len is long sum = grind (arith, nat_tests, length-append)
-
 -- what is written right after what was written from an index on
 pub laid-then : {X : Type 0} (n : ℕ) (xs ys old : List X) (k : ℕ)
     → k ≡ n + length xs
     → let now = take n old ++ laid xs (drop n old) in
     take k now ++ laid ys (drop k now) ≡ take n old ++ laid (xs ++ ys) (drop n old)
-laid-then zero xs ys old k is =
-    let same : k ≡ length xs = omega arith in
-    rw same (laid-appended xs ys old)
-laid-then (suc n) xs ys [] k is = rw (laid-nowhere xs, laid-nowhere (xs ++ ys)) (laid-past k ys [] (omega arith))
-laid-then (suc n) xs ys (o ∷ old) zero is = absurd (omega arith)
 laid-then (suc n) xs ys (o ∷ old) (suc k) is = grind (arith, laid-then n xs ys old k)
+laid-then zero (x ∷ xs) ys (o ∷ old) (suc k) is = grind (arith, laid-then zero xs ys old k)
+laid-then n xs ys old k is = grind (arith, laid-nowhere, laid-past)
 
--- a part that is written right after a text, which was written from an index on
-pub laid-on : (n : ℕ) (text part old now new : List ℕ) (k len : ℕ)
-    → (now ≡ take n old ++ laid text (drop n old)) × (k ≡ n + length text)
-    → (new ≡ take k now ++ laid part (drop k now)) × (len ≡ k + length part)
-    → (new ≡ take n old ++ laid (text ++ part) (drop n old)) × (len ≡ n + length (text ++ part))
-laid-on n text part old now new k len was step =
-    (rw (step.0, was.0) (laid-then n text part old k was.1), omega (arith, was.1, step.1, length-append text part))
+-- so after what was written from the start on
+pub laid-part : (text part old : List ℕ)
+    → take (length text) (laid text old) ++ laid part (drop (length text) (laid text old)) ≡ laid (text ++ part) old
+laid-part text part old = laid-then 0 text part old (length text) (omega arith)
+
+pub ruleset laid_parts = (laid-part, length-append)
 
 pub kinds_are_above_one : KindsAreAboveOne
 kinds_are_above_one refusal = grind (arith, nat_tests)

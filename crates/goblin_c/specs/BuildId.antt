@@ -5,8 +5,8 @@ use Rattle.goblin_c.specs.Common.{bytes_eq, refuse_as, ◌>>=◌}
 use Rattle.goblin_c.specs.declared.build_id.Holders.TheVariants.{Sections, Segments}
 use Rattle.goblin_c.specs.{Notes.whole_note, Results.refusal_converted, Sections.sections_expected}
 use Rattle.goblin_c.specs.{Segments.segments_expected, declared.build_id.Holders.Holders}
-use Rattle.std.specs.Prelude.{Bool, Err, List, MatchOption, None, Ok, Option, Result, Some, [], drop, if◌then◌else◌}
-use Rattle.std.specs.Prelude.{length, map, suc, take, zero, ℕ, ⊤, ◌&&◌, ◌++◌, ◌+◌, ◌-◌, ◌==◌, ◌∷◌, ◌≡◌}
+use Rattle.std.specs.Prelude.{Bool, Err, List, None, Ok, Option, Result, Some, [], drop, if◌then◌else◌}
+use Rattle.std.specs.Prelude.{length, map, suc, take, zero, ℕ, ◌&&◌, ◌++◌, ◌-◌, ◌==◌, ◌∷◌, ◌≡◌}
 
 -- a note is a build ID: its type is 3, and its name "GNU", which a zero byte closes
 abbrev pub is_build_id : List ℕ → GoblinNote → Bool
@@ -80,4 +80,4 @@ build_id_expected bytes h = do
 abbrev pub Seek : List ℕ → List (Result GoblinNote GoblinRefusal) → ℕ
     → Option (Result GoblinRange GoblinRefusal) × ℕ → Type 0
 Seek bytes notes most found =
-    (found.0 ≡ first_build_id bytes notes) × MatchOption found.0 (found.1 + length notes ≡ most) (λ ended. ⊤)
+    (found.0 ≡ first_build_id bytes notes) × (found.0 ≡ None → found.1 ≡ most - length notes)

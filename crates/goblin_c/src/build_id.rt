@@ -37,6 +37,7 @@ fn is_build_id(bytes: &[u8], note: &GoblinNote) -> bool
 
 // Looks for a build ID among the notes of a range, of which it reads so many at most. Returns how many more could be
 // read, too.
+#[tactic(auto, using(crate::proofs::BuildIdLemmas::notes_at))]
 fn seek(file: &GoblinFile<'_>, range: &GoblinRange, alignment: u64, most: u64) -> (Sought, u64)
     ensures { Seek file.now.bytes.now
         (whole_notes most file.now.bytes.now file.now.header range.now alignment range.now.offset) most result }

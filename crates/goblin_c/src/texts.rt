@@ -145,6 +145,7 @@ pub fn laws()
 {}
 
 /// Writes a text with a zero byte after it, or as much of them as the buffer holds. Returns the length of the text.
+#[tactic(auto, using(crate::proofs::BufferLemmas::laid_parts))]
 pub fn write_text(text: &str, buffer: &mut [u8]) -> u64
     ensures { WritesText text.now buffer.old result buffer.new }
 {

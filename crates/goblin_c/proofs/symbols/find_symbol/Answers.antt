@@ -1,13 +1,9 @@
 use Rattle.goblin_c.proofs.Common.{YieldsList-from_first, YieldsList-from_skip, position_from_yields_List, rules, ◌∙◌}
-use Rattle.goblin_c.specs.Strings.{is_named}
 use Rattle.goblin_c.proofs.symbols.find_symbol.Goals as goal
 
 pub returns-clause-value : goal.returns-clause-value
 returns-clause-value c =
-    let rest = YieldsList-from_skip c.args.first
-    (YieldsList-from_first (λ x. x) (λ left. left) c.args.symbols.now.symbols
-    (c.skip.ensures.source ∙ c.iter.ensures.value))
-    c.skip.ensures.count in
-    position_from_yields_List
-    (λ symbol. is_named c.args.strings.now c.args.name.now symbol.st_name) _ _ c.position.result
-    c.position.ensures.ran rest (λ x b q k. search rules)
+    let is = c.skip.ensures.source ∙ c.iter.ensures.value in
+    let all = YieldsList-from_first (λ x. x) (λ left. left) c.args.symbols.now.symbols is in
+    let rest = YieldsList-from_skip c.args.first all c.skip.ensures.count in
+    position_from_yields_List _ _ _ c.position.result c.position.ensures.ran rest (λ x b q k. search rules)
