@@ -56,8 +56,8 @@
 //! that it reads may be of any machine. It needs Rust 1.63. There is no public repository yet, and no registry that has
 //! it: `make dist` of its sources makes the crate. Without the feature `std`, which is on by default, it needs
 //! only `core` and `alloc`: [`Error`] is then no error of std, and [`strtab::Strtab::get_c_str`] is missing, which
-//! [`strtab::Strtab::get_closed_bytes`] stands for. (A program without std needs Rust 1.68.) All types may be shared and
-//! sent between threads, since the library has no state.
+//! [`strtab::Strtab::get_closed_bytes`] stands for. (A program without std needs Rust 1.68.) All types may be shared
+//! and sent between threads, since the library has no state.
 //!
 //! # Coming from goblin
 //! Here each part of the file is read on demand, which can fail, so most of goblin's fields are calls that return a
