@@ -168,13 +168,21 @@ static void dynamic(void) {
     table = range_of(ITEMS, sizeof(Elf64_Sym));
 }
 
-/* A build ID after as many notes as are read, or one more, and the same notes in each segment. */
+/* Writes the same header for each segment. */
+static void fill_segments(const Elf64_Phdr *header) {
+    for (uint64_t i = 0; i < SEGMENTS; i++) memcpy(bytes + 128 + i * sizeof *header, header, sizeof *header);
+}
+
+/* A build ID after as many notes as are read, or one more, in a segment and in a section; and the same notes in each
+   segment, or one whose name and descriptor are long. */
 static void build_id(void) {
     enum { READ = 65536, NOTES_AT = LONG_AT - (READ + 2) * sizeof(Elf64_Nhdr) };
     Elf64_Nhdr own = {4, 0, NT_GNU_BUILD_ID};
     Elf64_Phdr notes;
+    Elf64_Shdr own_section;
     uint8_t *last = bytes + NOTES_AT + READ * sizeof own;
     memset(&notes, 0, sizeof notes), notes.p_type = PT_NOTE, notes.p_align = 4;
+    memset(&own_section, 0, sizeof own_section);
     memcpy(last, &own, sizeof own), memcpy(last + sizeof own, "GNU", 4);
     notes.p_filesz = READ * sizeof own + 4, notes.p_offset = NOTES_AT + sizeof own;
     memcpy(bytes + 128, &notes, sizeof notes);
@@ -187,9 +195,26 @@ static void build_id(void) {
     cut = file, cut.len = LONG_AT - 1;
     ONCE("that of a file whose section headers are cut",
          goblin_build_id(&cut, &range, &why) == GOBLIN_REFUSED_TOO_BIG && why.offset == 64);
-    for (uint64_t i = 0; i < SEGMENTS; i++) memcpy(bytes + 128 + i * sizeof notes, &notes, sizeof notes);
+    /* (the third section's header is not in that of the first segment) */
+    own_section.sh_type = SHT_NOTE, own_section.sh_offset = (uint64_t)(last - bytes);
+    own_section.sh_size = sizeof own + 4;
+    memcpy(bytes + 64 + 2 * sizeof own_section, &own_section, sizeof own_section);
+    notes.p_filesz -= 2 * sizeof own + 4, notes.p_offset += sizeof own;
+    memcpy(bytes + 128, &notes, sizeof notes);
+    ONCE("the build ID of a section in the last note that is read",
+         goblin_build_id(&file, &range, &why) == GOBLIN_OK && range.offset == (uint64_t)(last - bytes) + 16);
+    notes.p_filesz += sizeof own, notes.p_offset -= sizeof own;
+    memcpy(bytes + 128, &notes, sizeof notes);
+    ONCE("that of a section after the notes that are read", goblin_build_id(&file, &range, &why) == GOBLIN_END);
+    fill_segments(&notes);
     ONCE("the same notes in each segment", goblin_build_id(&file, &range, &why) == GOBLIN_END);
-    memset(bytes + 128, 0, SEGMENTS * sizeof notes), memset(last, 0, sizeof own + 4);
+    memset(last, 0, sizeof own + 4);
+    own.n_namesz = own.n_descsz = 2 * LONG_SIZE, notes.p_offset = LONG_AT - sizeof own;
+    notes.p_filesz = sizeof own + 4 * LONG_SIZE;
+    memcpy(bytes + notes.p_offset, &own, sizeof own);
+    fill_segments(&notes);
+    ONCE("a long note in each segment", goblin_build_id(&file, &range, &why) == GOBLIN_END);
+    memset(bytes + 128, 0, SEGMENTS * sizeof notes), memset(bytes + notes.p_offset, 0, sizeof own);
 }
 
 /* Fills each of the strings with two bytes in turn, and a last byte. */

@@ -150,6 +150,26 @@ static void build_ids(void) {
         }
 }
 
+/* Tests the build ID after another note of 20 bytes: the next one starts at a multiple of the alignment. */
+static void build_ids_after_a_note(void) {
+    goblin_range_t found = {0, 0};
+    for (uint32_t alignment = 4; alignment <= 8; alignment += 4)
+        for (int has_segment = 0; has_segment < 2; has_segment++) {
+            size_t at = alignment == 8 ? NOTES + 24 : NOTES + 20;
+            memset(file, 0, sizeof file);
+            end = SECTIONS + 4, put(4, has_segment ? GOBLIN_SHT_PROGBITS : GOBLIN_SHT_NOTE), put(2 * wide, 0);
+            put(wide, NOTES), put(wide, 48), put(8, 0), put(wide, alignment);
+            end = SEGMENTS, put(4, has_segment ? GOBLIN_PT_NOTE : GOBLIN_PT_LOAD);
+            end = SEGMENTS + wide, put(wide, NOTES), end = SEGMENTS + 4 * wide, put(wide, 48);
+            end = SEGMENTS + (wide == 4 ? 28 : 48), put(wide, alignment);
+            end = NOTES, put(4, 4), put(4, 4), put(4, 1), memcpy(file + end, "ABC", 4);
+            end = at, put(4, 4), put(4, 8), put(4, 3), memcpy(file + end, "GNU", 4);
+            f.header.e_shoff = SECTIONS;
+            SAME(goblin_build_id(&f, &found, &why), GOBLIN_OK);
+            SAME(found.offset, at + 16), SAME(found.size, 8);
+        }
+}
+
 /* Tests the calls for the dynamic section: an entry, `wanted.dyn`, and the one that ends them. The file has no segment
    of it. */
 static void dynamic_all(void) {
@@ -718,6 +738,7 @@ int main(int argc, char **argv) {
         wide = kind < 2 ? 8 : 4, is_big = kind % 2;
         read_all();
         build_ids();
+        build_ids_after_a_note();
         refuse_all();
         call_with_nulls();
     }
