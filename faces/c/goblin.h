@@ -52,7 +52,7 @@
        symbols, relocations, strings, entries, a number in a range: the range that is passed
        a symbol by its address        the symbols, and all section headers
        a note                         the note; of goblin_note_whole as much of it as is in the range
-       a build ID                     all program headers and section headers, and the notes before it
+       a build ID                     all program headers and section headers, and the notes up to it
        a range of bytes               the range
        the dynamic section            the program headers, or without those the section headers, and the range
      So a caller may read parts into buffers of its own: goblin_file over the file's start, and for each other part a
@@ -165,7 +165,8 @@ enum GOBLIN_NUMBERS {
     GOBLIN_ITEM_INVALID_UTF8 = 1,
     GOBLIN_ITEM_SECTION_HEADERS = 2,
     GOBLIN_ITEM_PROGRAM_HEADERS = 3,
-    /* The part of a note that goblin_note_whole does not find. goblin_refusal_to_str has no words for these. */
+    /* The part of a note that goblin_note_whole or goblin_build_id does not find. goblin_refusal_to_str has no words
+       for these. */
     GOBLIN_ITEM_NOTE_HEADER = 4,
     GOBLIN_ITEM_NOTE_NAME = 5,
     GOBLIN_ITEM_NOTE_DESC = 6,
@@ -858,8 +859,9 @@ uint64_t goblin_visibility_to_str(uint8_t visibility, void *text, size_t capacit
    Example: goblin_note_type_to_str(GOBLIN_LITERAL("GNU"), note.n_type, text, sizeof text); */
 uint64_t goblin_note_type_to_str(const void *name, size_t name_len, uint32_t n_type, void *text, size_t capacity);
 /* Writes the text of a refusal in the library's words, such as "type is too big (64) for 52": 64 bytes are needed, and
-   52 are left. The text of GOBLIN_REFUSED_INTEGER_FIT ends with the number and the offset of its field, such as
-   ": 4294967296 at offset 24". For goblin_note_whole print the part (`item`), too, since the text has no words for it.
+   52 are left. The text of GOBLIN_REFUSED_INTEGER_FIT ends with the number, unless it is 0, and the offset of its
+   field, such as ": 4294967296 at offset 24". For goblin_note_whole and goblin_build_id print the part (`item`), too,
+   since the text has no words for it.
    The text depends on `*why` alone, which a caller may fill itself: a `fourth` that means yes or no is yes unless it is
    0; an `item` that is none of GOBLIN_ITEM_INVALID_UTF8 and the like has the empty name; a `kind` that is no refusal
    has the empty text.

@@ -13,8 +13,7 @@ abbrev pub is_build_id : List ℕ → GoblinNote → Bool
 is_build_id bytes note =
     note.n_type == 3 && note.name.size == 3 && bytes_eq (take 4 (drop note.name.offset bytes)) (71 ∷ 78 ∷ 85 ∷ 0 ∷ [])
 
--- notes that are read one after another: none; this one, and those from its next offset on; or a refusal, which ends
--- them
+-- notes that are read one after another: none; this one, and those from its next offset on; or a refusal, the last
 abbrev pub note_and_rest : Result (Option GoblinNote) GoblinRefusal
     → (ℕ → List (Result GoblinNote GoblinRefusal)) → List (Result GoblinNote GoblinRefusal)
 note_and_rest (Ok None) rest = []

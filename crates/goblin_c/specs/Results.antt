@@ -1,6 +1,5 @@
 -- What a call for C returns, a number, and what it stores where its caller points: an item, or a refusal with where in
--- the
--- file the thing that is refused begins.
+-- the file the thing that is refused begins.
 use Rattle.goblin_c.specs.Buffers.{laid}
 use Rattle.goblin_c.specs.Common.{END, Error, Facts, GoblinRefusal, INVALID_UTF8, OK, PROGRAM_HEADERS, Refusal, Refused}
 use Rattle.goblin_c.specs.Common.{SECTION_HEADERS, bytes_eq, kind_number, refusal_facts, refusal_of, refuse_as}

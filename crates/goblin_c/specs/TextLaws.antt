@@ -1,4 +1,4 @@
--- Each refusal of each call has the library's text when it is converted for C.
+-- Each refusal of each call, but goblin_build_id, has the library's text when it is converted for C.
 use Rattle.goblin_base.specs.{Eager.records_from, Eager.records_in, Eager.room_of_each, Record.read_within}
 use Rattle.goblin_base.specs.{declared.container.Endian.Endian}
 use Rattle.goblin_c.specs.Common.{Big, Ctx, DataType, GoblinDyn, GoblinHeader, GoblinRange, GoblinReloc, GoblinSection}

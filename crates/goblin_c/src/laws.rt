@@ -29,7 +29,8 @@ pub fn notes()
 {}
 
 /// Laws: for each refusal that a call stores, `goblin_refusal_to_str` writes the text that the library's
-/// own error prints. So it does for those of `goblin_note_whole`, whose item is the part.
+/// own error prints. So it does for those of `goblin_note_whole`, whose item is the part. Those that `goblin_build_id`
+/// stores are of the lists of headers or of `goblin_note_whole`; no law says so.
 pub fn texts()
     ensures calls { RefusalsHaveSameText }
     ensures notes { PartsHaveSameText }
