@@ -4,7 +4,7 @@ ghost use Rattle.goblin_c.specs.Buffers.{laid};
 ghost use Rattle.goblin_c.specs.File.{context_of};
 ghost use Rattle.goblin_c.specs.Items.{count_of, item_at, items_from};
 ghost use Rattle.goblin_c.specs.Results.{Fills, ReturnsAt, Stores, converted_list};
-ghost use Rattle.std.specs.Prelude.{IfSome, IsTrue, List, drop, length, min, slice_get, take, ◌*◌, ◌+◌, ◌-◌, ◌<◌, ◌^◌, ◌≡◌, ◌≤◌};
+ghost use Rattle.std.specs.Prelude.{IfSome, IsSome, IsTrue, List, drop, length, min, slice_get, take, ◌*◌, ◌+◌, ◌-◌, ◌<◌, ◌^◌, ◌≡◌, ◌≤◌};
 ghost use Rattle.goblin_base.specs.declared.container.Container.TheVariants as class;
 ghost use Rattle.goblin_base.specs.declared.container.Endian.TheVariants as endian;
 
@@ -121,6 +121,8 @@ pub fn record_in<R: LaidOut<C>, C: Copy>(
     ensures index { IfSome result (λ _. (index + 1) * (R.layout ctx).size ≤ size) }
     ensures value { let own = (R.layout ctx).size in IfSome result (λ found.
         found ≡ (R.layout ctx).read (take own (drop (offset + index * own) bytes.now))) }
+    ensures found { offset + size ≤ length bytes.now → (index + 1) * (R.layout ctx).size ≤ size
+        → index < 2 ^ 32 → (R.layout ctx).size < 2 ^ 16 → IsSome result }
 {
     let own = R::size_in(ctx) as u64;
     let end = offset.checked_add(size)?;
@@ -139,7 +141,8 @@ pub fn record_in<R: LaidOut<C>, C: Copy>(
 // asks for neither again.
 #[inline(always)]
 pub fn is_usual(header: &GoblinHeader) -> bool
-    ensures { IsTrue result → context_of header.now ≡ record { container = class.Big; le = endian.Little } }
+    ensures value { IsTrue result → context_of header.now ≡ record { container = class.Big; le = endian.Little } }
+    ensures found { context_of header.now ≡ record { container = class.Big; le = endian.Little } → IsTrue result }
 {
     header.ei_class == ELFCLASS64 && header.ei_data != ELFDATA2MSB
 }

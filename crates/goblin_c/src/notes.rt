@@ -3,9 +3,10 @@ ghost use Rattle.goblin.specs.NoteType.{note_type_name};
 ghost use Rattle.goblin.specs.Notes.{LieWithin};
 ghost use Rattle.goblin.specs.Refusal.{refusal_of};
 ghost use Rattle.goblin_base.specs.Common.{Returns as Gives};
+ghost use Rattle.goblin_c.specs.File.{context_of};
 ghost use Rattle.goblin_c.specs.Notes.{bytes_from, note_converted, note_expected, note_utf8_expected, note_whole_expected, part_converted, part_number, parts_at, read_parts, whole_note, without_last};
 ghost use Rattle.goblin_c.specs.Results.{Stored, Stores};
-ghost use Rattle.std.specs.Prelude.{IfOk, IfSome, IsAscii, IsTrue, Ok, Some, length, take, ◌+◌, ◌-◌, ◌<◌, ◌^◌, ◌≡◌, ◌≤◌, ◌⊎◌};
+ghost use Rattle.std.specs.Prelude.{IfOk, IfSome, IsAscii, IsOk, IsSome, IsTrue, Ok, Some, drop, length, take, ◌+◌, ◌-◌, ◌<◌, ◌^◌, ◌≡◌, ◌≢◌, ◌≤◌, ◌⊎◌};
 ghost use Rattle.std.specs.Str.{IsAscii};
 ghost use Rattle.goblin_base.specs.declared.container.Endian.TheVariants as endian;
 
@@ -282,7 +283,8 @@ const SHORT: usize = 16;
 // Reports whether a name is short and ASCII.
 #[inline(always)]
 fn is_short_ascii(name: &[u8]) -> bool
-    ensures { IsTrue result → IsAscii name.now }
+    ensures value { IsTrue result → IsAscii name.now }
+    ensures found { IsAscii name.now → length name.now ≤ 16 → IsTrue result }
 {
     // (most names are `GNU`)
     match name {
@@ -297,6 +299,7 @@ fn is_short_ascii(name: &[u8]) -> bool
 fn usual_places(bytes: &[u8], alignment: usize) -> Option<NotePlaces>
     requires known { (alignment ≡ 4) ⊎ (alignment ≡ 8) }
     ensures value { IfSome result (λ places. read_parts alignment endian.Little bytes.now ≡ Ok places) }
+    ensures found { IsOk (read_parts alignment endian.Little bytes.now) → IsSome result }
     ensures within { IfSome result (LieWithin (length bytes.now) 0) }
 {
     let Ok((header, _)) = Nhdr32::try_from_ctx(bytes, Endian::Little) else {
@@ -314,6 +317,7 @@ fn usual_places(bytes: &[u8], alignment: usize) -> Option<NotePlaces>
 
 /// Returns the note at an offset, among those of a range, if it is a usual one.
 #[inline(always)]
+#[tactic(auto, unfolding(crate::specs::Notes::parts_at), using(crate::proofs::NoteLemmas::windows))]
 pub fn usual_note(
     bytes: &[u8],
     header: &GoblinHeader,
@@ -324,6 +328,9 @@ pub fn usual_note(
     ensures value { IfSome result
         (λ note. note_expected bytes.now header.now range.now alignment offset ≡ Ok (Some note)) }
     ensures name { IfSome result (λ note. note.name.offset + note.name.size ≤ length bytes.now) }
+    ensures found { header.now.ei_data ≢ 2 → (alignment ≡ 4) ⊎ (alignment ≡ 8)
+        → offset < range.now.offset + range.now.size
+        → IsOk (parts_at bytes.now offset (alignment, context_of header.now)) → IsSome result }
 {
     if header.ei_data == ELFDATA2MSB || offset >= bytes.len() as u64 {
         return None;
@@ -349,8 +356,11 @@ pub fn usual_text_note(
     alignment: u64,
     offset: u64,
 ) -> Option<GoblinNote>
-    ensures { IfSome result
+    ensures value { IfSome result
         (λ note. note_utf8_expected bytes.now header.now range.now alignment offset ≡ Ok (Some note)) }
+    ensures found { header.now.ei_data ≢ 2 → (alignment ≡ 4) ⊎ (alignment ≡ 8)
+        → IfOk (note_expected bytes.now header.now range.now alignment offset) (λ found. IfSome found (λ note.
+        note.name.size ≤ 16 → IsAscii (take note.name.size (drop note.name.offset bytes.now)) → IsSome result)) }
 {
     let note = usual_note(bytes, header, range, alignment, offset)?;
     let start = note.name.offset as usize;
